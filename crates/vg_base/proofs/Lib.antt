@@ -1,0 +1,6 @@
+mod Order
+mod Texts
+pub mod Places
+pub mod Rising
+pub mod Values
+pub mod Walk
