@@ -1,20 +1,32 @@
-//! Characters, texts, words, maps, numbers and script trees: what every other crate stands on.
+//! Characters, texts, words, maps, places, faults, numbers and script trees: what every other crate stands on.
 #![tactic(auto)]
 
-mod map;
+mod characters;
+mod doc_fault;
+mod format;
+mod link_fault;
 mod memory;
+mod mode;
 mod numbers;
+mod place;
 mod script;
 mod script_copy;
 mod text;
+mod text_map;
 mod word;
 
-pub use map::TextMap;
+pub use characters::{is_char, is_name, is_name_start, is_space};
+pub use doc_fault::{DocFault, DocKind};
+pub use format::Format;
+pub use link_fault::{LinkFault, LinkKind};
 pub use memory::Memory;
+pub use mode::Mode;
 pub use numbers::{Area, DocIx, LoaderNo, NodeIx, RuleIx, VersionNo};
+pub use place::Place;
 pub use script::{AssignOp, BinOp, Expr, Key, Root, Script, Stmt, UnOp};
 pub use text::Text;
-pub use word::{Word, is_space};
+pub use text_map::TextMap;
+pub use word::Word;
 
 #[cfg(test)]
 mod tests;
