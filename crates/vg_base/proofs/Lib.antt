@@ -1,3 +1,5 @@
+pub mod Bytes
+pub mod Lines
 mod Order
 mod Texts
 pub mod Places

@@ -2,6 +2,7 @@
 #![tactic(auto)]
 
 mod characters;
+mod cursor;
 mod doc_fault;
 mod format;
 mod link_fault;
@@ -16,6 +17,7 @@ mod text_map;
 mod word;
 
 pub use characters::{is_char, is_name, is_name_start, is_space};
+pub use cursor::Cursor;
 pub use doc_fault::{DocFault, DocKind};
 pub use format::Format;
 pub use link_fault::{LinkFault, LinkKind};
