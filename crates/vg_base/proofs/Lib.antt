@@ -1,4 +1,5 @@
 pub mod Bytes
+pub mod Joined
 pub mod Lines
 mod Order
 mod Texts

@@ -28,7 +28,7 @@ pub use place::Place;
 pub use script::{AssignOp, BinOp, Expr, Key, Root, Script, Stmt, UnOp};
 pub use text::Text;
 pub use text_map::TextMap;
-pub use word::Word;
+pub use word::{Word, join_words};
 
 #[cfg(test)]
 mod tests;
