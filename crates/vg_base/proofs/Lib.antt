@@ -1,7 +1,9 @@
 pub mod Bytes
+pub mod Firsts
 pub mod Joined
 pub mod Lines
 mod Order
+pub mod PlacesRise
 mod Texts
 pub mod Places
 pub mod Rising

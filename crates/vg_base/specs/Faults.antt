@@ -1,9 +1,14 @@
--- The kinds of faults, with the number and the printed name of each.
+-- The kinds of faults, with the number and the printed name of each, and the order in which faults are told.
 use Rattle.std.specs.Prelude.{ℕ, List, codes}
+use Rattle.std.specs.Ordering.{nat_cmp, on, then_cmp}
+use Rattle.std.specs.declared.cmp.Ordering.{Ordering}
 use Rattle.vg_base.specs.declared.doc_fault.DocKind.{DocKind}
 use Rattle.vg_base.specs.declared.doc_fault.DocKind.TheVariants as doc
+use Rattle.vg_base.specs.declared.doc_fault.DocFault.{DocFault}
+use Rattle.vg_base.specs.declared.link_fault.LinkFault.{LinkFault}
 use Rattle.vg_base.specs.declared.link_fault.LinkKind.{LinkKind}
 use Rattle.vg_base.specs.declared.link_fault.LinkKind.TheVariants as link
+use Rattle.vg_base.specs.Places.{place_order}
 
 abbrev pub doc_kind_number : DocKind → ℕ
 doc_kind_number doc.NoHeader = 1
@@ -64,3 +69,10 @@ link_kind_name link.NoRoot = codes "NoRoot"
 link_kind_name link.ModeDiffers = codes "ModeDiffers"
 link_kind_name link.SelfDerive = codes "SelfDerive"
 link_kind_name link.NodesOver = codes "NodesOver"
+
+-- the order of faults: by place, then by the kind's number
+abbrev pub doc_fault_order : DocFault → DocFault → Ordering
+doc_fault_order = then_cmp (on (λ f. f.place) place_order) (on (λ f. doc_kind_number f.kind) nat_cmp)
+
+abbrev pub link_fault_order : LinkFault → LinkFault → Ordering
+link_fault_order = then_cmp (on (λ f. f.place) place_order) (on (λ f. link_kind_number f.kind) nat_cmp)

@@ -1,6 +1,7 @@
 pub mod Characters
 pub mod Declarations
 pub mod Faults
+pub mod First
 pub mod Kinds
 pub mod Places
 pub mod Walking

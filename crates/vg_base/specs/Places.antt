@@ -35,6 +35,10 @@ last_of front = slice_index front (length front - 1)
 abbrev pub takes_column : List ℕ → ℕ → Bool
 takes_column front c = is_within_line c && not (c == 0xFEFF && length front == 0)
 
+-- each character moves the place on, but the line feed of CR LF and the byte order mark
+abbrev pub moves_on : List ℕ → ℕ → Bool
+moves_on front c = ends_line (last_of front) c || takes_column front c
+
 -- a text that is walked over: the characters that were passed, and the rest
 pub record Walked : Type 0 where
   pub passed : List ℕ
