@@ -85,3 +85,12 @@ impl<'a> Cursor<'a> {
         }
     }
 }
+
+/// The place just past these characters at the start of a text.
+pub fn place_after(front: &[char]) -> Place
+    ensures { result ≡ place_after front.now }
+{
+    let mut cursor = Cursor::new(front);
+    cursor.go(front.len());
+    cursor.place()
+}

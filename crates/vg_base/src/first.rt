@@ -12,13 +12,7 @@ pub fn sooner<F: Ord + Drop>(found: Option<F>, more: Option<F>) -> Option<F>
     match (found, more) {
         (None, more) => more,
         (found, None) => found,
-        (Some(f), Some(g)) => {
-            if f.cmp(&g).is_gt() {
-                Some(g)
-            } else {
-                Some(f)
-            }
-        }
+        (Some(f), Some(g)) => { if f.cmp(&g).is_gt() { Some(g) } else { Some(f) } }
     }
 }
 

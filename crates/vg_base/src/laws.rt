@@ -18,19 +18,16 @@ pub fn places_rise()
     ensures not_back { (front more : List ℕ) → is_gt (place_order (place_after front) (place_after (front ++ more))) ≡ false }
     ensures later { (front more : List ℕ) (c : ℕ) → moves_on front c ≡ true
         → place_order (place_after front) (place_after (front ++ c ∷ more)) ≡ Less }
-{
-}
+{}
 
 /// What `cmp` answers at places and faults.
 pub fn orders_of_faults()
     ensures places { (p q : Place) → ⟦<Place as Ord>⟧.cmp p q ≡ place_order p q }
     ensures documents { (f g : DocFault) → ⟦<DocFault as Ord>⟧.cmp f g ≡ doc_fault_order f g }
     ensures sets { (f g : LinkFault) → ⟦<LinkFault as Ord>⟧.cmp f g ≡ link_fault_order f g }
-{
-}
+{}
 
 /// Two firsts of one list stand alike.
 pub fn one_first<F: Ord>()
     ensures { (fs : List F) (f g : F) → IsFirst F.cmp fs (Some f) → IsFirst F.cmp fs (Some g) → F.cmp f g ≡ Equal }
-{
-}
+{}

@@ -19,7 +19,7 @@ mod text_map;
 mod word;
 
 pub use characters::{is_char, is_name, is_name_start, is_space};
-pub use cursor::Cursor;
+pub use cursor::{Cursor, place_after};
 pub use doc_fault::{DocFault, DocKind};
 pub use first::{first_of, sooner};
 pub use format::Format;
