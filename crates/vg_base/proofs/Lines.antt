@@ -1,14 +1,12 @@
 -- The place after one more character.
-use Rattle.std.proofs.Common.{◌≡◌, ◌≢◌, ℕ, suc, ◌+◌, ◌-◌, ◌<◌, ◌≤◌, Bool, true, false, cond, not, ◌==◌, ◌||◌, ◌&&◌, List, [], ◌∷◌, ◌++◌, length, get_or, sub-one, refl, ap, ◌∙◌, sym, arith, inl, inr}
+use Rattle.std.proofs.Common.{◌≡◌, ℕ, suc, ◌+◌, ◌≤◌, Bool, true, false, cond, not, ◌==◌, ◌||◌, ◌&&◌, List, [], ◌∷◌, ◌++◌, length, get_or, sub-one, refl, ap, ◌∙◌, sym, arith}
 use Rattle.std.specs.Prelude.{count_by}
-use Rattle.std.specs.List.{suffix_len, prefix_len, zip, sum_by}
+use Rattle.std.specs.List.{suffix_len, prefix_len, zip}
 use Rattle.std.proofs.lemmas.List.{reverse-append}
 use Rattle.std.proofs.lemmas.List.Sums.{sum_by-append, count_by-le-length, suffix_len-le-length}
 use Rattle.std.proofs.lemmas.Slice.Zip.{length-zip}
-use Rattle.std.proofs.lemmas.Bool.Decides.{nat_tests}
 use lib.Dec.{eqb-suc-zero}
 use borrow.Author.Tests.{eqb-true}
-use Rattle.vg_base.specs.declared.place.Place.{Place}
 use Rattle.vg_base.specs.Places.{ends_line, is_within_line, last_of, takes_column, without_mark, line_ends, place_after}
 
 -- the last character, or the one before the first

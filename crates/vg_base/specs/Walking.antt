@@ -1,5 +1,5 @@
 -- What a walk keeps: the place and the byte at which it stands.
-use Rattle.std.specs.Prelude.{◌≡◌, ℕ, ◌≤◌, length, take, drop}
+use Rattle.std.specs.Prelude.{◌≡◌, ◌≤◌, length, take, drop}
 use Rattle.vg_base.specs.declared.cursor.Cursor.TheInside.{Inside}
 use Rattle.vg_base.specs.Characters.{byte_len}
 use Rattle.vg_base.specs.Places.{Walked, place_after}

@@ -1,4 +1,4 @@
-use Rattle.std.proofs.Common.{◌≡◌, ◌<◌, ◌++◌, length, ap, sym, ◌∙◌, arith}
+use Rattle.std.proofs.Common.{◌<◌, ◌++◌, length, ap, ◌∙◌, arith}
 use Rattle.vg_base.proofs.Joined.{join-first, join-more}
 use Rattle.vg_base.proofs.word.join_words.Goals as goal
 use Rattle.vg_base.proofs.word.join_words.Goals.{then-place-gt0+in_ok-push, else-place-gt0}
