@@ -5,7 +5,8 @@ ghost use Rattle.vg_base.specs.Places.{place_after};
 use crate::place::{Place, place_past};
 use std::marker::Model;
 
-/// A walk over the characters of a text, once from the first to the last, which knows the place and the byte at which it stands.
+/// A walk over the characters of a text, from the first to the last, which knows at which place and byte it stands.
+/// Contracts see it as the characters that it passed and those that are left.
 #[derive(Debug, Drop)]
 pub struct Cursor<'a> {
     characters: &'a [char],
@@ -27,6 +28,7 @@ impl<'a> Model for Cursor<'a> {
 }
 
 impl<'a> Cursor<'a> {
+    /// A cursor before the first character.
     pub fn new(characters: &'a [char]) -> Cursor<'a>
         ensures passed { result.passed ≡ [] }
         ensures rest { result.rest ≡ characters.now }

@@ -2,6 +2,7 @@
 ghost use Rattle.std.specs.Prelude.{◌≡◌, ℕ, List, ◌∷◌, ◌++◌, true, false, Some, None};
 ghost use Rattle.std.specs.Ordering.{is_gt};
 ghost use Rattle.std.specs.declared.cmp.Ordering.TheVariants.{Less, Equal};
+ghost use Rattle.vg_base.specs.Characters.{byte_len, IsPlace};
 ghost use Rattle.vg_base.specs.Places.{moves_on, place_after, place_order};
 ghost use Rattle.vg_base.specs.Faults.{doc_fault_order, link_fault_order};
 ghost use Rattle.vg_base.specs.First.{IsFirst};
@@ -12,6 +13,11 @@ ghost use Rattle.vg_base.specs.declared.link_fault.LinkFault.{LinkFault};
 use crate::doc_fault::DocFault;
 use crate::link_fault::LinkFault;
 use crate::place::Place;
+
+/// Each front of a text ends at a place.
+pub fn fronts_end_at_places()
+    ensures { (front back : List ℕ) → IsPlace (front ++ back) (byte_len front) }
+{}
 
 /// A place lies before no place of a shorter front, and behind each character that moves on it is later.
 pub fn places_rise()

@@ -23,7 +23,7 @@ pub use cursor::{Cursor, place_after};
 pub use doc_fault::{DocFault, DocKind};
 pub use first::{first_of, sooner};
 pub use format::Format;
-pub use laws::{one_first, orders_of_faults, places_rise};
+pub use laws::{fronts_end_at_places, one_first, orders_of_faults, places_rise};
 pub use link_fault::{LinkFault, LinkKind};
 pub use memory::Memory;
 pub use mode::Mode;
