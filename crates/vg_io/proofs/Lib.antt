@@ -1,0 +1,4 @@
+pub mod Bytes
+pub mod Cutting
+pub mod Reading
+pub mod Answering
