@@ -28,3 +28,6 @@ pub use sink::Sink;
 pub use source::{Failed, Source};
 pub use sure_source::SureSource;
 pub use whole::write_all;
+
+#[cfg(test)]
+mod tests;
