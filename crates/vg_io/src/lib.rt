@@ -4,6 +4,7 @@
 mod adapters;
 mod calls;
 mod chunk;
+mod dir_store;
 mod gate;
 mod gathered;
 mod gathering;
@@ -11,21 +12,26 @@ mod limits;
 mod lines;
 mod memory_sink;
 mod memory_source;
+mod memory_store;
 mod null_sink;
 mod sink;
 mod source;
+mod store;
 mod sure_source;
 mod whole;
 
 pub use adapters::{ReadSource, WriteSink};
+pub use dir_store::DirStore;
 pub use gate::{Gate, Open};
 pub use limits::{INPUT_LIMIT, LINE_LIMIT};
 pub use lines::{Finish, LineReader, Next};
 pub use memory_sink::MemSink;
 pub use memory_source::MemSource;
+pub use memory_store::MemStore;
 pub use null_sink::NullSink;
 pub use sink::Sink;
 pub use source::{Failed, Source};
+pub use store::{Store, StoreFailed};
 pub use sure_source::SureSource;
 pub use whole::write_all;
 
