@@ -52,3 +52,13 @@ LeavesNoLine (Some bytes) (Some rest) = (front : List ℕ) × HasNoFeed front ×
 -- the source lost these bytes, where it tells them, and they are counted
 abbrev pub TakesBytes : Option (List ℕ) → Option (List ℕ) → ℕ → ℕ → Type 0
 TakesBytes before after count_before count_after = (bytes : List ℕ) × Consumes before after bytes × (count_before + length bytes ≡ count_after)
+
+-- these lines, each with its line feed
+abbrev pub with_feeds : List (List ℕ) → List ℕ
+with_feeds [] = []
+with_feeds (line ∷ lines) = line ++ 10 ∷ with_feeds lines
+
+-- what stands behind the last line feed is a line where it has a byte
+abbrev pub last_line : List ℕ → List (List ℕ)
+last_line [] = []
+last_line (b ∷ bs) = (b ∷ bs) ∷ []

@@ -55,9 +55,6 @@ impl Source for SureSource {
         ensures bytes { ReadConsumes (Some self.old.left) (Some self.new.left) result buf.new }
         ensures end { EndsWhereNoneAreLeft (Some self.old.left) result }
         ensures ends { IsTrue self.new.ended ↔ (IsTrue self.old.ended ⊎ (result ≡ Ok 0)) }
-        ensures never_falls { 0 ≤ 0 }
-        ensures cause { OnErr result (Rose 0 0) }
-        ensures counted { 0 ≤ 0 + 1 }
 
         // What this one does.
         ensures count { result ≡ Ok (min (length buf.old) (length self.old.left)) }
