@@ -1,14 +1,14 @@
 -- What follows for the answer of a reader of lines from the line that was gathered, or from how it stopped.
-use Rattle.std.proofs.Common.{◌≡◌, ℕ, ◌<◌, ◌≤◌, Bool, List, None, Some, length, refl, ap, subst, sym}
+use Rattle.std.proofs.Common.{◌≡◌, ℕ, ◌≤◌, Bool, List, None, Some, length, subst, sym}
 use Rattle.std.specs.declared.option.Option.{Option}
 use Rattle.std.specs.Io.KnownBytes.{IsAtEnd}
 use Rattle.vg_io.specs.declared.lines.Finish.{Finish}
 use Rattle.vg_io.specs.declared.lines.Finish.TheVariants as finish
 use Rattle.vg_io.specs.declared.lines.Next.{Next}
 use Rattle.vg_io.specs.declared.lines.Next.TheVariants as next
-use Rattle.vg_io.specs.Lines.{GivesLine, BeginsLong, IsKnownEmpty}
+use Rattle.vg_io.specs.Lines.{GivesLine, BeginsLong}
 use Rattle.vg_io.specs.Reader.{IfLine, finish_of}
-use Rattle.vg_io.proofs.Reading.{GivesLine-not_long, GivesLine-not_empty, IsAtEnd-not_long}
+use Rattle.vg_io.proofs.Reading.{GivesLine-not_long, IsAtEnd-not_long}
 
 module _ (limit : ℕ) (a b : Option (List ℕ)) (ended : Bool) (front : List ℕ) where
   -- the line that was gathered is the next one

@@ -1,6 +1,5 @@
 -- How gathering a line ends.
 use Rattle.std.specs.Prelude.{ℕ}
-use Rattle.vg_io.specs.declared.lines.Finish.{Finish}
 use Rattle.vg_io.specs.declared.lines.Finish.TheVariants as finish
 use Rattle.vg_io.specs.declared.gathering.Gathering.{Gathering}
 use Rattle.vg_io.specs.declared.gathering.Gathering.TheVariants as gathering
