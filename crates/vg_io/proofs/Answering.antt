@@ -12,8 +12,8 @@ use Rattle.vg_io.proofs.Reading.{GivesLine-not_long, IsAtEnd-not_long}
 
 module _ (limit : ℕ) (a b : Option (List ℕ)) (ended : Bool) (front : List ℕ) where
   -- the line that was gathered is the next one
-  pub gives : (result : Next) → GivesLine a b ended front → IfLine result (λ v. (v ≡ front) × (length v ≤ limit)) → IfLine result (λ v. GivesLine a b ended v × (length v ≤ limit))
-  gives (next.Line v) g h = (subst (λ l. GivesLine a b ended l) (sym h.0) g, h.1)
+  pub gives : (result : Next) → GivesLine a b ended front → IfLine result (λ v. (v ≡ front) × (length v ≤ limit)) → IfLine result (λ v. (length v ≤ limit) × GivesLine a b ended v)
+  gives (next.Line v) g h = (h.1, subst (λ l. GivesLine a b ended l) (sym h.0) g)
   gives next.Long g h = tt
   gives next.End g h = tt
   gives next.ReadFault g h = tt

@@ -17,7 +17,8 @@ pub record Supply : Type 0 where
   pub left : List ℕ
   pub ended : Bool
 
--- A sink that fails at calls that were named: the bytes written, the room left, and the rest as in `Feed`.
+-- A sink that fails at calls that were named: the bytes written, the room left, and the rest as in
+-- `Feed`.
 pub record Drain : Type 0 where
   pub written : List ℕ
   pub room : ℕ
@@ -30,6 +31,8 @@ pub record Drain : Type 0 where
 abbrev pub is_named : List ℕ → ℕ → Bool
 is_named failing k = list_any (λ x. x == k) failing
 
--- n bytes at most, and at most entry k; past the list its last entry counts, and an empty list sets no bound
+-- n bytes at most, and at most entry k; past the list its last entry counts, and an empty list sets
+-- no bound
 abbrev pub bounded : List ℕ → ℕ → ℕ → ℕ
-bounded pieces k n = if nat_lt 0 (length pieces) then min n (slice_index pieces (min k (length pieces - 1))) else n
+bounded pieces k n =
+    if nat_lt 0 (length pieces) then min n (slice_index pieces (min k (length pieces - 1))) else n

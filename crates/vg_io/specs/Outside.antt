@@ -15,13 +15,15 @@ Rose before now = counted before ≤ now
 abbrev pub EndsWhereNoneAreLeft : {E : Type 0} → Option (List ℕ) → Result ℕ E → Type 0
 EndsWhereNoneAreLeft left result = IfSome left (λ bytes. IfOk result (λ n. (n ≡ 0) ↔ (bytes ≡ [])))
 
--- what contracts see of an adapter over a reader: the bytes left where it tells them, whether a read has met the end, and the faults so far
+-- What contracts see of an adapter over a reader: the bytes left where it tells them, whether a read
+-- has met the end, and the faults so far.
 pub record Inlet : Type 0 where
   pub left : Option (List ℕ)
   pub ended : Bool
   pub faults : ℕ
 
--- what contracts see of an adapter over a writer: the bytes written where it tells them, and the faults so far
+-- What contracts see of an adapter over a writer: the bytes written where it tells them, and the
+-- faults so far.
 pub record Outlet : Type 0 where
   pub written : Option (List ℕ)
   pub faults : ℕ

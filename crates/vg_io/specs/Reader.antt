@@ -1,5 +1,5 @@
 -- What contracts see of a reader of lines.
-use Rattle.std.specs.Prelude.{◌≡◌, ℕ, ◌+◌, ◌<◌, ◌≤◌, ◌↔◌, Bool, true, false, ◌||◌, List, [], ◌∷◌, ◌++◌, length, if◌then◌else◌, None, Some, IsSome, IsTrue, is_some}
+use Rattle.std.specs.Prelude.{◌≡◌, ℕ, ◌+◌, ◌<◌, ◌≤◌, ◌↔◌, Bool, true, false, ◌||◌, List, [], ◌∷◌, ◌++◌, length, take, drop, if◌then◌else◌, None, Some, IsSome, IsTrue, is_some}
 use Rattle.std.specs.declared.option.Option.{Option}
 use Rattle.std.specs.Io.KnownBytes.{Consumes, IsAtEnd, prepend_known}
 use Rattle.vg_io.specs.declared.lines.Finish.{Finish}
@@ -9,7 +9,8 @@ use Rattle.vg_io.specs.declared.lines.Next.TheVariants as next
 use Rattle.vg_io.specs.declared.gathered.Gathered.{Gathered}
 use Rattle.vg_io.specs.Lines.{HasNoFeed, TakesBytes}
 
--- The bytes that were taken and not given, how many were taken in all, whether a read of this reader met the end of input, and the answer that is given from now on.
+-- The bytes that were taken and not given, how many were taken in all, whether a read of this reader
+-- met the end of input, and the answer that is given from now on.
 pub record Reading : Type 0 where
   pub held : List ℕ
   pub taken : ℕ
@@ -25,7 +26,8 @@ abbrev pub most_reads : Reading → ℕ
 most_reads r = r.taken + (if r.ended || is_some r.finished then 1 else 0)
 
 -- what holds of every reader
-pub record IsStanding (limit : ℕ) (held : List ℕ) (taken : ℕ) (ended : Bool) (finished : Option Finish) : Type 0 where
+pub record IsStanding (limit : ℕ) (held : List ℕ) (taken : ℕ) (ended : Bool)
+    (finished : Option Finish) : Type 0 where
   pub few : taken ≤ limit + 1
   pub end : IsTrue ended → (held ≡ []) × (taken ≤ limit)
   pub stopped : IsSome finished → (IsTrue ended ↔ (finished ≡ Some finish.End))
@@ -60,15 +62,27 @@ GathersIn limit front line = Gathers limit front line.bytes.items line.is_long
 
 -- whatever was gathered, this part is gathered behind it
 abbrev pub Adds : ℕ → List ℕ → Gathered → Gathered → Type 0
-Adds limit part old new = (front : List ℕ) → GathersIn limit front old → GathersIn limit (front ++ part) new
+Adds limit part old new =
+    (front : List ℕ) → GathersIn limit front old → GathersIn limit (front ++ part) new
 
--- a line's end was moved from what is held, with its line feed; or all that is held, which has no line feed
+-- Bytes were gathered: all of them, which have no line feed, or those before the first line feed.
+abbrev pub MovesPart : ℕ → List ℕ → Option ℕ → Gathered → Gathered → Type 0
+MovesPart limit bytes None old new = HasNoFeed bytes × Adds limit bytes old new
+MovesPart limit bytes (Some n) old new =
+    (n < length bytes) × HasNoFeed (take n bytes) × (bytes ≡ take n bytes ++ 10 ∷ drop (n + 1) bytes)
+    × Adds limit (take n bytes) old new
+
+-- A line's end was moved from what is held, with its line feed; or all that is held, which has no
+-- line feed.
 abbrev pub Moves : ℕ → Bool → List ℕ → List ℕ → Gathered → Gathered → Type 0
-Moves limit true held_old held_new old new = (part : List ℕ) × HasNoFeed part × (held_old ≡ part ++ 10 ∷ held_new) × Adds limit part old new
-Moves limit false held_old held_new old new = HasNoFeed held_old × (held_new ≡ []) × Adds limit held_old old new
+Moves limit true held_old held_new old new =
+    (part : List ℕ) × HasNoFeed part × (held_old ≡ part ++ 10 ∷ held_new) × Adds limit part old new
+Moves limit false held_old held_new old new =
+    HasNoFeed held_old × (held_new ≡ []) × Adds limit held_old old new
 
 -- In the middle of a line: what was gathered is the front of what there was, and the counts agree.
-pub record InLine (limit : ℕ) (left_old left_new : Option (List ℕ)) (held_old held_new : List ℕ) (taken_old taken_new : ℕ) (line : Gathered) : Type 0 where
+pub record InLine (limit : ℕ) (left_old left_new : Option (List ℕ)) (held_old held_new : List ℕ)
+    (taken_old taken_new : ℕ) (line : Gathered) : Type 0 where
   pub front : List ℕ
   pub no_feed : HasNoFeed front
   pub gathers : GathersIn limit front line
@@ -77,10 +91,12 @@ pub record InLine (limit : ℕ) (left_old left_new : Option (List ℕ)) (held_ol
   pub moved : length front + length held_new + taken_old ≡ length held_old + taken_new
 
 -- A line ended, at its line feed, or at the end of the bytes with no line feed.
-pub record Ends (limit : ℕ) (fed : Bool) (left_old left_new : Option (List ℕ)) (held_old held_new : List ℕ) (taken_old taken_new : ℕ) (line : Gathered) : Type 0 where
+pub record Ends (limit : ℕ) (fed : Bool) (left_old left_new : Option (List ℕ))
+    (held_old held_new : List ℕ) (taken_old taken_new : ℕ) (line : Gathered) : Type 0 where
   pub front : List ℕ
   pub no_feed : HasNoFeed front
   pub gathers : GathersIn limit front line
-  pub consumed : Consumes (prepend_known held_old left_old) (prepend_known held_new left_new) (front ++ (if fed then 10 ∷ [] else []))
+  pub consumed : Consumes (prepend_known held_old left_old) (prepend_known held_new left_new)
+      (front ++ (if fed then 10 ∷ [] else []))
   pub at_end : fed ≡ false → (held_new ≡ []) × IsAtEnd left_new × (0 < length front)
   pub moved : length held_new + taken_old < length held_old + taken_new

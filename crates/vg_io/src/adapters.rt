@@ -1,5 +1,5 @@
 //! Sources and sinks over std's readers and writers: the trusted edge.
-ghost use Rattle.std.specs.Prelude.{◌≡◌, ℕ, ◌+◌, ◌<◌, ◌≤◌, ◌↔◌, ◌⊎◌, false, IsTrue};
+ghost use Rattle.std.specs.Prelude.{◌≡◌, ◌<◌, false};
 ghost use Rattle.vg_io.specs.Outside.{Inlet, Outlet};
 
 use crate::sink::Sink;

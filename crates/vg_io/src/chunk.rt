@@ -1,9 +1,9 @@
 //! Bytes that were read and not yet given.
-ghost use Rattle.std.specs.Prelude.{◌≡◌, ℕ, ◌+◌, ◌<◌, ◌≤◌, List, [], ◌∷◌, ◌++◌, length, take, drop, slice_index, IfOk, OnErr, IsTrue, ◌↔◌, ◌⊎◌, MatchOption, MatchResult};
+ghost use Rattle.std.specs.Prelude.{◌≡◌, ◌+◌, ◌<◌, ◌≤◌, [], length, take, slice_index, IfOk, OnErr, IsTrue, ◌↔◌, ◌⊎◌, MatchOption, MatchResult};
 ghost use Rattle.std.specs.Io.KnownBytes.{Consumes, Keeps, IsAtEnd};
 ghost use Rattle.vg_io.specs.Outside.{Rose};
 ghost use Rattle.vg_io.specs.Lines.{HasNoFeed};
-ghost use Rattle.vg_io.specs.Reader.{Gathers, Moves};
+ghost use Rattle.vg_io.specs.Reader.{Moves, MovesPart};
 
 use crate::gathered::Gathered;
 use crate::limits::{CHUNK, LINE_LIMIT};
@@ -46,9 +46,12 @@ impl Chunk {
         requires some { 0 < most }
         requires empty { self.old ≡ [] }
         ensures within { IfOk result (λ n. (n ≤ most) × (n ≡ length self.new)) }
-        ensures bytes { MatchResult result (λ n. Consumes (S.left source.old) (S.left source.new) self.new × (n ≡ 0 → IsAtEnd (S.left source.new)))
+        ensures bytes { MatchResult result
+            (λ n. Consumes (S.left source.old) (S.left source.new) self.new
+            × (n ≡ 0 → IsAtEnd (S.left source.new)))
             (λ _. Keeps (S.left source.old) (S.left source.new) × (self.new ≡ [])) }
-        ensures ends { IsTrue (S.ended source.new) ↔ (IsTrue (S.ended source.old) ⊎ (result ≡ Ok 0)) }
+        ensures ends { IsTrue (S.ended source.new)
+            ↔ (IsTrue (S.ended source.old) ⊎ (result ≡ Ok 0)) }
         ensures never_falls { S.faults source.old ≤ S.faults source.new }
         ensures cause { OnErr result (Rose (S.faults source.old) (S.faults source.new)) }
         ensures counted { S.reads source.new ≤ S.reads source.old + 1 }
@@ -60,9 +63,11 @@ impl Chunk {
         Ok(count)
     }
 
-    /// Moves what is held to the line, up to a line feed, which is taken too. Says whether one was there.
+    /// Moves what is held to the line, up to a line feed, which is taken too. Says whether one was
+    /// there.
     pub fn take_part(&mut self, line: &mut Gathered) -> Result<bool, AllocError>
-        ensures { IfOk result (λ found. Moves LINE_LIMIT found self.old self.new line.old line.new) }
+        ensures { IfOk result (λ found.
+            Moves LINE_LIMIT found self.old self.new line.old line.new) }
     {
         match move_part(&self.buf[self.start..self.end], line) {
             Err(e) => Err(e),
@@ -83,7 +88,9 @@ fn read_front<S: Source>(source: &mut S, buf: &mut [u8], most: usize) -> Result<
     requires some { 0 < most }
     requires room { 0 < length buf.old }
     ensures within { IfOk result (λ n. (n ≤ most) × (n ≤ length buf.new)) }
-    ensures bytes { MatchResult result (λ n. Consumes (S.left source.old) (S.left source.new) (take n buf.new) × (n ≡ 0 → IsAtEnd (S.left source.new)))
+    ensures bytes { MatchResult result
+        (λ n. Consumes (S.left source.old) (S.left source.new) (take n buf.new)
+        × (n ≡ 0 → IsAtEnd (S.left source.new)))
         (λ _. Keeps (S.left source.old) (S.left source.new)) }
     ensures ends { IsTrue (S.ended source.new) ↔ (IsTrue (S.ended source.old) ⊎ (result ≡ Ok 0)) }
     ensures never_falls { S.faults source.old ≤ S.faults source.new }
@@ -96,12 +103,7 @@ fn read_front<S: Source>(source: &mut S, buf: &mut [u8], most: usize) -> Result<
 
 /// Adds a part of the line, and says how many bytes stood before its line feed.
 fn move_part(bytes: &[u8], line: &mut Gathered) -> Result<Option<usize>, AllocError>
-    ensures { IfOk result (λ r. MatchOption r
-        (HasNoFeed bytes.now × ((front : List ℕ) → Gathers LINE_LIMIT front line.old.bytes.items line.old.is_long
-        → Gathers LINE_LIMIT (front ++ bytes.now) line.new.bytes.items line.new.is_long))
-        (λ n. (n < length bytes.now) × HasNoFeed (take n bytes.now) × (bytes.now ≡ take n bytes.now ++ 10 ∷ drop (n + 1) bytes.now)
-        × ((front : List ℕ) → Gathers LINE_LIMIT front line.old.bytes.items line.old.is_long
-        → Gathers LINE_LIMIT (front ++ take n bytes.now) line.new.bytes.items line.new.is_long))) }
+    ensures { IfOk result (λ count. MovesPart LINE_LIMIT bytes.now count line.old line.new) }
 {
     match feed_at(bytes) {
         Some(at) => {
@@ -118,7 +120,8 @@ fn move_part(bytes: &[u8], line: &mut Gathered) -> Result<Option<usize>, AllocEr
 /// The place of the first line feed.
 fn feed_at(bytes: &[u8]) -> Option<usize>
     ensures { MatchOption result (HasNoFeed bytes.now)
-        (λ i. (i < length bytes.now) × HasNoFeed (take i bytes.now) × (slice_index bytes.now i ≡ 10)) }
+        (λ i. (i < length bytes.now) × HasNoFeed (take i bytes.now)
+        × (slice_index bytes.now i ≡ 10)) }
 {
     for (i, b) in bytes.iter().enumerate() {
         if *b == 10 {

@@ -1,6 +1,6 @@
 //! The bytes of one line, as far as they were read.
-ghost use Rattle.std.specs.Prelude.{◌≡◌, ◌<◌, ◌≤◌, ℕ, List, [], ◌++◌, length, None, OnOk, IsTrue, ◌↔◌};
-ghost use Rattle.vg_io.specs.Reader.{Gathers, IfLine, finish_of};
+ghost use Rattle.std.specs.Prelude.{◌≡◌, ◌<◌, ◌≤◌, ℕ, List, [], length, None, OnOk, IsTrue, ◌↔◌};
+ghost use Rattle.vg_io.specs.Reader.{GathersIn, Adds, IfLine, finish_of};
 
 use crate::limits::LINE_LIMIT;
 use crate::lines::Next;
@@ -15,7 +15,7 @@ pub struct Gathered {
 
 impl Gathered {
     pub fn new(alloc: Global) -> Gathered
-        ensures { Gathers LINE_LIMIT [] result.bytes.items result.is_long }
+        ensures { GathersIn LINE_LIMIT [] result }
     {
         Gathered {
             bytes: Vec::new(alloc),
@@ -24,15 +24,15 @@ impl Gathered {
     }
 
     pub fn is_empty(&self) -> bool
-        ensures { (front : List ℕ) → Gathers LINE_LIMIT front self.now.bytes.items self.now.is_long → (IsTrue result ↔ (length front ≡ 0)) }
+        ensures { (front : List ℕ) → GathersIn LINE_LIMIT front self.now
+            → (IsTrue result ↔ (length front ≡ 0)) }
     {
         !self.is_long && self.bytes.is_empty()
     }
 
     /// Past the limit no byte is kept any more.
     pub fn add(&mut self, part: &[u8]) -> Result<(), AllocError>
-        ensures { OnOk result ((front : List ℕ) → Gathers LINE_LIMIT front self.old.bytes.items self.old.is_long
-            → Gathers LINE_LIMIT (front ++ part.now) self.new.bytes.items self.new.is_long) }
+        ensures { OnOk result (Adds LINE_LIMIT part.now self.old self.new) }
     {
         if self.is_long {
             return Ok(());
@@ -45,8 +45,10 @@ impl Gathered {
     }
 
     pub fn answer(self) -> Next
-        ensures line { (front : List ℕ) → Gathers LINE_LIMIT front self.bytes.items self.is_long → IfLine result (λ v. (v ≡ front) × (length v ≤ LINE_LIMIT)) }
-        ensures long { (front : List ℕ) → Gathers LINE_LIMIT front self.bytes.items self.is_long → result ≡ Next.Long → LINE_LIMIT < length front }
+        ensures line { (front : List ℕ) → GathersIn LINE_LIMIT front self
+            → IfLine result (λ v. (v ≡ front) × (length v ≤ LINE_LIMIT)) }
+        ensures long { (front : List ℕ) → GathersIn LINE_LIMIT front self
+            → result ≡ Next.Long → LINE_LIMIT < length front }
         ensures stays { finish_of result ≡ None }
     {
         if self.is_long {

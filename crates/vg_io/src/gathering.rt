@@ -25,8 +25,10 @@ pub enum Gathering {
 
 /// At the end of input a line that has a byte is the last.
 fn gathered_at_end(line: &Gathered) -> Gathering
-    ensures last { result ≡ Gathering.Last → (front : List ℕ) → GathersIn LINE_LIMIT front line.now → 0 < length front }
-    ensures end { result ≡ Gathering.Stop Finish.End → (front : List ℕ) → GathersIn LINE_LIMIT front line.now → length front ≡ 0 }
+    ensures last { result ≡ Gathering.Last
+        → (front : List ℕ) → GathersIn LINE_LIMIT front line.now → 0 < length front }
+    ensures end { result ≡ Gathering.Stop Finish.End
+        → (front : List ℕ) → GathersIn LINE_LIMIT front line.now → length front ≡ 0 }
     ensures either { MetEnd result }
 {
     if line.is_empty() {
@@ -47,24 +49,34 @@ pub fn gather<S: Source>(
     requires fresh { GathersIn LINE_LIMIT [] line.old }
     requires small { taken.old ≤ INPUT_LIMIT + 1 }
     // Where the line ends.
-    ensures whole { result ≡ Gathering.Whole → Ends LINE_LIMIT true (S.left source.old) (S.left source.new) chunk.old chunk.new taken.old taken.new line.new }
-    ensures last { result ≡ Gathering.Last → Ends LINE_LIMIT false (S.left source.old) (S.left source.new) chunk.old chunk.new taken.old taken.new line.new }
-    ensures end { result ≡ Gathering.Stop Finish.End → IsAtEnd (prepend_known chunk.old (S.left source.old)) × IsAtEnd (S.left source.new) × (chunk.new ≡ []) }
+    ensures whole { result ≡ Gathering.Whole
+        → Ends LINE_LIMIT true (S.left source.old) (S.left source.new)
+        chunk.old chunk.new taken.old taken.new line.new }
+    ensures last { result ≡ Gathering.Last
+        → Ends LINE_LIMIT false (S.left source.old) (S.left source.new)
+        chunk.old chunk.new taken.old taken.new line.new }
+    ensures end { result ≡ Gathering.Stop Finish.End
+        → IsAtEnd (prepend_known chunk.old (S.left source.old))
+        × IsAtEnd (S.left source.new) × (chunk.new ≡ []) }
 
     // The end of input.
     ensures met { MetEnd result → IsTrue (S.ended source.new) × (taken.new ≤ INPUT_LIMIT) }
     ensures unmet { IsTrue (S.ended source.new) → IsTrue (S.ended source.old) ⊎ MetEnd result }
 
     // The other causes.
-    ensures fault { result ≡ Gathering.Stop Finish.ReadFault → Rose (S.faults source.old) (S.faults source.new) × (taken.new ≤ INPUT_LIMIT) }
+    ensures fault { result ≡ Gathering.Stop Finish.ReadFault
+        → Rose (S.faults source.old) (S.faults source.new) × (taken.new ≤ INPUT_LIMIT) }
     ensures over { result ≡ Gathering.Stop Finish.InputOver → INPUT_LIMIT < taken.new }
-    ensures rest { (result ≡ Gathering.Stop Finish.ReadFault) ⊎ (result ≡ Gathering.Stop Finish.InputOver) → LeavesNoLine (prepend_known chunk.old (S.left source.old)) (S.left source.new) }
+    ensures rest { (result ≡ Gathering.Stop Finish.ReadFault)
+        ⊎ (result ≡ Gathering.Stop Finish.InputOver)
+        → LeavesNoLine (prepend_known chunk.old (S.left source.old)) (S.left source.new) }
 
     // The counts.
     ensures counts { TakesBytes (S.left source.old) (S.left source.new) taken.old taken.new }
     ensures taken { (taken.old ≤ taken.new) × (taken.new ≤ INPUT_LIMIT + 1) }
     ensures never_falls { S.faults source.old ≤ S.faults source.new }
-    ensures reads { S.reads source.new + taken.old ≤ S.reads source.old + taken.new + empty_reads result }
+    ensures reads { S.reads source.new + taken.old
+        ≤ S.reads source.old + taken.new + empty_reads result }
 {
     loop {
         match chunk.take_part(line) {

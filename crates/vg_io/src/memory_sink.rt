@@ -1,5 +1,5 @@
 //! A sink over memory whose room, pieces and faults are chosen.
-ghost use Rattle.std.specs.Prelude.{◌≡◌, ℕ, ◌+◌, ◌<◌, ◌≤◌, ◌↔◌, ◌⊎◌, [], min, length, Some, IsTrue, IsErr, IfOk, OnErr, is_err, if◌then◌else◌};
+ghost use Rattle.std.specs.Prelude.{◌≡◌, ◌+◌, ◌<◌, ◌≤◌, ◌↔◌, ◌⊎◌, [], min, length, Some, IsTrue, IsErr, IfOk, OnErr, is_err, if◌then◌else◌};
 ghost use Rattle.std.specs.List.{All};
 ghost use Rattle.std.specs.Io.KnownBytes.{WriteAppends, Keeps};
 ghost use Rattle.vg_io.specs.Outside.{Rose, counted};
@@ -24,20 +24,28 @@ pub struct MemSink {
 }
 
 impl Model for MemSink {
-    ghost use Rattle.std.specs.Prelude.{◌≤◌, ◌+◌, ◌≡◌, ℕ, vec_len, vec_capacity};
+    ghost use Rattle.std.specs.Prelude.{◌≤◌, ◌+◌, vec_len, vec_capacity};
     ghost use Rattle.std.specs.List.{All};
     ghost use Rattle.vg_io.specs.Objects.{Drain};
 
     ghost Value = { Drain };
 
-    ghost view = { λ s. record { written = s.bytes.items; room = s.room; pieces = s.pieces.items; failing = s.failing.items; calls = s.calls; faults = s.faults } };
+    ghost view = { λ s. record {
+      written = s.bytes.items;
+      room = s.room;
+      pieces = s.pieces.items;
+      failing = s.failing.items;
+      calls = s.calls;
+      faults = s.faults;
+    } };
 
-    ghost invariant = { λ s. (vec_len s.bytes + s.room ≤ vec_capacity s.bytes) × All (λ p. 1 ≤ p) s.pieces.items };
+    ghost invariant = { λ s. (vec_len s.bytes + s.room ≤ vec_capacity s.bytes)
+        × All (λ p. 1 ≤ p) s.pieces.items };
 }
 
 impl MemSink {
-    /// A sink with room for so many bytes. Writes and flushes are counted together from 0: entry k of
-    /// `pieces` bounds call k, as for `MemSource::open`, and the calls in `failing` fail.
+    /// A sink with room for so many bytes. Writes and flushes are counted together from 0: entry k
+    /// of `pieces` bounds call k, as for `MemSource::open`, and the calls in `failing` fail.
     pub fn open(
         alloc: Global,
         room: u64,
@@ -45,7 +53,14 @@ impl MemSink {
         failing: Vec<u64>,
     ) -> Result<MemSink, Memory>
         requires { All (λ p. 1 ≤ p) pieces.items }
-        ensures { IfOk result (λ s. s ≡ record { written = []; room = room; pieces = pieces.items; failing = failing.items; calls = 0; faults = 0 }) }
+        ensures { IfOk result (λ s. s ≡ record {
+          written = [];
+          room = room;
+          pieces = pieces.items;
+          failing = failing.items;
+          calls = 0;
+          faults = 0;
+        }) }
     {
         let bytes = Vec::with_capacity(alloc, room as usize)?;
         Ok(MemSink {
@@ -81,11 +96,14 @@ impl Sink for MemSink {
         ensures cause { OnErr result (Rose self.old.faults self.new.faults) }
 
         // What this one does at each call.
-        ensures fails { IsErr result ↔ (IsTrue (is_named self.old.failing self.old.calls) ⊎ (self.old.room ≡ 0)) }
-        ensures count { IfOk result (λ n. n ≡ bounded self.old.pieces self.old.calls (min (length piece.now) self.old.room)) }
+        ensures fails { IsErr result
+            ↔ (IsTrue (is_named self.old.failing self.old.calls) ⊎ (self.old.room ≡ 0)) }
+        ensures count { IfOk result (λ n.
+            n ≡ bounded self.old.pieces self.old.calls (min (length piece.now) self.old.room)) }
         ensures room { IfOk result (λ n. self.new.room + n ≡ self.old.room) }
         ensures kept { OnErr result (self.new.room ≡ self.old.room) }
-        ensures faults { self.new.faults ≡ (if is_err result then counted self.old.faults else self.old.faults) }
+        ensures faults { self.new.faults
+            ≡ (if is_err result then counted self.old.faults else self.old.faults) }
         ensures calls { self.new.calls ≡ counted self.old.calls }
         ensures pieces { self.new.pieces ≡ self.old.pieces }
         ensures failing { self.new.failing ≡ self.old.failing }
@@ -111,7 +129,8 @@ impl Sink for MemSink {
         // What this one does at each call.
         ensures fails { IsErr result ↔ IsTrue (is_named self.old.failing self.old.calls) }
         ensures room { self.new.room ≡ self.old.room }
-        ensures faults { self.new.faults ≡ (if is_err result then counted self.old.faults else self.old.faults) }
+        ensures faults { self.new.faults
+            ≡ (if is_err result then counted self.old.faults else self.old.faults) }
         ensures calls { self.new.calls ≡ counted self.old.calls }
         ensures pieces { self.new.pieces ≡ self.old.pieces }
         ensures failing { self.new.failing ≡ self.old.failing }

@@ -1,5 +1,5 @@
 //! A source over bytes in memory whose pieces and faults are chosen.
-ghost use Rattle.std.specs.Prelude.{◌≡◌, ℕ, ◌+◌, ◌<◌, ◌≤◌, ◌↔◌, ◌⊎◌, min, length, false, Some, IsTrue, IsErr, IfOk, OnErr, is_err, if◌then◌else◌};
+ghost use Rattle.std.specs.Prelude.{◌≡◌, ◌+◌, ◌<◌, ◌≤◌, ◌↔◌, ◌⊎◌, min, length, false, Some, IsTrue, IsErr, IfOk, OnErr, is_err, if◌then◌else◌};
 ghost use Rattle.std.specs.List.{All};
 ghost use Rattle.std.specs.Io.KnownBytes.{ReadConsumes};
 ghost use Rattle.vg_io.specs.Outside.{Rose, EndsWhereNoneAreLeft, counted};
@@ -22,23 +22,37 @@ pub struct MemSource {
 }
 
 impl Model for MemSource {
-    ghost use Rattle.std.specs.Prelude.{◌≤◌, ◌≡◌, ℕ, drop, length, vec_len};
+    ghost use Rattle.std.specs.Prelude.{◌≤◌, drop, vec_len};
     ghost use Rattle.std.specs.List.{All};
     ghost use Rattle.vg_io.specs.Objects.{Feed};
 
     ghost Value = { Feed };
 
-    ghost view = { λ s. record { left = drop s.at s.bytes.items; ended = s.ended; pieces = s.pieces.items; failing = s.failing.items; calls = s.calls; faults = s.faults } };
+    ghost view = { λ s. record {
+      left = drop s.at s.bytes.items;
+      ended = s.ended;
+      pieces = s.pieces.items;
+      failing = s.failing.items;
+      calls = s.calls;
+      faults = s.faults;
+    } };
 
     ghost invariant = { λ s. (s.at ≤ vec_len s.bytes) × All (λ p. 1 ≤ p) s.pieces.items };
 }
 
 impl MemSource {
-    /// A source of these bytes. Entry k of `pieces` bounds read k, counted from 0; past the list its
-    /// last entry counts, and an empty list sets no bound. The reads in `failing` fail.
+    /// A source of these bytes. Entry k of `pieces` bounds read k, counted from 0; past the list
+    /// its last entry counts, and an empty list sets no bound. The reads in `failing` fail.
     pub fn open(bytes: Vec<u8>, pieces: Vec<u32>, failing: Vec<u64>) -> MemSource
         requires { All (λ p. 1 ≤ p) pieces.items }
-        ensures { result ≡ record { left = bytes.items; ended = false; pieces = pieces.items; failing = failing.items; calls = 0; faults = 0 } }
+        ensures { result ≡ record {
+          left = bytes.items;
+          ended = false;
+          pieces = pieces.items;
+          failing = failing.items;
+          calls = 0;
+          faults = 0;
+        } }
     {
         MemSource {
             bytes,
@@ -75,8 +89,10 @@ impl Source for MemSource {
 
         // What this one does at each call.
         ensures fails { IsErr result ↔ IsTrue (is_named self.old.failing self.old.calls) }
-        ensures count { IfOk result (λ n. n ≡ bounded self.old.pieces self.old.calls (min (length buf.old) (length self.old.left))) }
-        ensures faults { self.new.faults ≡ (if is_err result then counted self.old.faults else self.old.faults) }
+        ensures count { IfOk result (λ n. n
+            ≡ bounded self.old.pieces self.old.calls (min (length buf.old) (length self.old.left))) }
+        ensures faults { self.new.faults
+            ≡ (if is_err result then counted self.old.faults else self.old.faults) }
         ensures calls { self.new.calls ≡ counted self.old.calls }
         ensures pieces { self.new.pieces ≡ self.old.pieces }
         ensures failing { self.new.failing ≡ self.old.failing }

@@ -1,9 +1,8 @@
 //! A folder over memory whose faults are chosen.
-ghost use Rattle.std.specs.Prelude.{◌≡◌, ℕ, ◌≤◌, ◌↔◌, List, false, true, Some, Err, IsTrue, IsErr, IfOk, ◌||◌, is_ok, if◌then◌else◌};
+ghost use Rattle.std.specs.Prelude.{◌≡◌, ℕ, ◌≤◌, ◌↔◌, List, false, Some, Err, IsTrue, IsErr, IfOk, is_ok};
 ghost use Rattle.std.specs.List.{All};
-ghost use Rattle.vg_io.specs.Outside.{Rose, counted};
-ghost use Rattle.vg_io.specs.Objects.{is_named};
-ghost use Rattle.vg_io.specs.Stores.{ListsNames, HasBytes, IsInByteOrder, IsListed};
+ghost use Rattle.vg_io.specs.Outside.{Rose};
+ghost use Rattle.vg_io.specs.Stores.{ListsNames, HasBytes, IsInByteOrder, IsListed, meets_fault, after_call, after_list};
 
 use crate::calls::is_failing;
 use crate::store::{Store, StoreFailed, names_in};
@@ -27,14 +26,26 @@ impl Model for MemStore {
 
     ghost Value = { Shelf };
 
-    ghost view = { λ s. record { files = s.files; listed = s.listed; failing = s.failing.items; calls = s.calls; faults = s.faults } };
+    ghost view = { λ s. record {
+      files = s.files;
+      listed = s.listed;
+      failing = s.failing.items;
+      calls = s.calls;
+      faults = s.faults;
+    } };
 }
 
 impl MemStore {
     /// A store of these files, by name. Its calls are counted together from 0, and those in
     /// `failing` meet a fault.
     pub fn of(files: TextMap<Items<u8>>, failing: Vec<u64>) -> MemStore
-        ensures { result ≡ record { files = files; listed = false; failing = failing.items; calls = 0; faults = 0 } }
+        ensures { result ≡ record {
+          files = files;
+          listed = false;
+          failing = failing.items;
+          calls = 0;
+          faults = 0;
+        } }
     {
         MemStore {
             files,
@@ -47,9 +58,9 @@ impl MemStore {
 
     /// Counts a call, and says whether it meets a fault.
     fn meets_fault(&mut self) -> bool
-        ensures answer { result ≡ is_named self.old.failing self.old.calls }
+        ensures answer { result ≡ meets_fault self.old }
         ensures never_falls { self.old.faults ≤ self.new.faults }
-        ensures after { self.new ≡ record self.old { calls = counted self.old.calls; faults = if result then counted self.old.faults else self.old.faults } }
+        ensures after { self.new ≡ after_call self.old }
     {
         let call = self.calls;
         self.calls = self.calls.saturating_add(1);
@@ -62,8 +73,6 @@ impl MemStore {
 }
 
 impl Store for MemStore {
-    ghost use Rattle.vg_io.specs.Stores.{IsListed};
-
     ghost files = { λ s. Some s.files };
 
     ghost is_listed = { IsListed };
@@ -78,9 +87,9 @@ impl Store for MemStore {
         ensures cause { result ≡ Err StoreFailed.Fault → Rose self.old.faults self.new.faults }
 
         // What this one does at each call.
-        ensures fails { IsErr result ↔ IsTrue (is_named self.old.failing self.old.calls) }
+        ensures fails { IsErr result ↔ IsTrue (meets_fault self.old) }
         ensures fault { IsErr result → result ≡ Err StoreFailed.Fault }
-        ensures after { self.new ≡ record self.old { calls = counted self.old.calls; faults = if is_named self.old.failing self.old.calls then counted self.old.faults else self.old.faults } }
+        ensures after { self.new ≡ after_call self.old }
     {
         if self.meets_fault() {
             return Err(StoreFailed::Fault);
@@ -99,8 +108,8 @@ impl Store for MemStore {
         ensures cause { result ≡ Err StoreFailed.Fault → Rose self.old.faults self.new.faults }
 
         // What this one does at each call.
-        ensures fails { (result ≡ Err StoreFailed.Fault) ↔ IsTrue (is_named self.old.failing self.old.calls) }
-        ensures after { self.new ≡ record self.old { listed = self.old.listed || is_ok result; calls = counted self.old.calls; faults = if is_named self.old.failing self.old.calls then counted self.old.faults else self.old.faults } }
+        ensures fails { (result ≡ Err StoreFailed.Fault) ↔ IsTrue (meets_fault self.old) }
+        ensures after { self.new ≡ after_list (is_ok result) self.old }
     {
         if self.meets_fault() {
             return Err(StoreFailed::Fault);
@@ -120,8 +129,8 @@ impl Store for MemStore {
         ensures cause { result ≡ Err StoreFailed.Fault → Rose self.old.faults self.new.faults }
 
         // What this one does at each call.
-        ensures fails { (result ≡ Err StoreFailed.Fault) ↔ IsTrue (is_named self.old.failing self.old.calls) }
-        ensures after { self.new ≡ record self.old { calls = counted self.old.calls; faults = if is_named self.old.failing self.old.calls then counted self.old.faults else self.old.faults } }
+        ensures fails { (result ≡ Err StoreFailed.Fault) ↔ IsTrue (meets_fault self.old) }
+        ensures after { self.new ≡ after_call self.old }
     {
         if self.meets_fault() {
             return Err(StoreFailed::Fault);

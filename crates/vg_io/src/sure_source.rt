@@ -1,7 +1,7 @@
 //! A source over bytes in memory that never fails.
-ghost use Rattle.std.specs.Prelude.{◌≡◌, ℕ, ◌+◌, ◌<◌, ◌≤◌, ◌↔◌, ◌⊎◌, min, length, false, Some, IsTrue, IfOk, OnErr};
+ghost use Rattle.std.specs.Prelude.{◌≡◌, ◌+◌, ◌<◌, ◌≤◌, ◌↔◌, ◌⊎◌, min, length, false, Some, IsTrue, IfOk};
 ghost use Rattle.std.specs.Io.KnownBytes.{ReadConsumes};
-ghost use Rattle.vg_io.specs.Outside.{Rose, EndsWhereNoneAreLeft};
+ghost use Rattle.vg_io.specs.Outside.{EndsWhereNoneAreLeft};
 
 use crate::calls::copy_front;
 use crate::source::{Failed, Source};

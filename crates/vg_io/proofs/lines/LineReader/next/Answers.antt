@@ -25,7 +25,7 @@ returns-in-Whole-clause-line g c =
 
 pub returns-in-Whole-clause-long : goal.returns-in-Whole-clause-long
 returns-in-Whole-clause-long g c long =
-    let e = whole g c in (e.front, gives_whole g c, c.answer-in-Whole.ensures.long e.front e.gathers long)
+    let e = whole g c in (e.front, c.answer-in-Whole.ensures.long e.front e.gathers long, gives_whole g c)
 
 pub returns-in-Whole-clause-long_only : goal.returns-in-Whole-clause-long_only
 returns-in-Whole-clause-long_only g c _ _ long =
@@ -51,7 +51,7 @@ returns-in-Last-clause-line g c =
 
 pub returns-in-Last-clause-long : goal.returns-in-Last-clause-long
 returns-in-Last-clause-long g c long =
-    let e = last g c in (e.front, gives_last g c, c.answer-in-Last.ensures.long e.front e.gathers long)
+    let e = last g c in (e.front, c.answer-in-Last.ensures.long e.front e.gathers long, gives_last g c)
 
 pub returns-in-Last-clause-long_only : goal.returns-in-Last-clause-long_only
 returns-in-Last-clause-long_only g c _ _ long =
