@@ -1,0 +1,5 @@
+pub mod Bytes
+pub mod Cutting
+pub mod Reading
+pub mod Answering
+pub mod Naming

@@ -1,0 +1,72 @@
+ghost use Rattle.std.specs.List.{All};
+
+use crate::{MemStore, Store};
+use sqlite_items::Items;
+use std::alloc::Global;
+use std::test::Fail;
+use vg_base::{Memory, Text, TextMap};
+
+/// Writes down what a store answers: its names, each with its bytes, up to the first failure.
+pub fn shown<T: Store>(alloc: Global, store: &mut T, folder: &Text) -> Result<String, Memory> {
+    let mut said = String::new(alloc);
+    if store.open(alloc, folder).is_err() {
+        said.push_str("no folder")?;
+        return Ok(said);
+    }
+    match store.list(alloc) {
+        Ok(names) => say_files(alloc, store, &names, &mut said)?,
+        Err(_) => said.push_str("no list")?,
+    }
+    Ok(said)
+}
+
+fn say_files<T: Store>(
+    alloc: Global,
+    store: &mut T,
+    names: &Vec<Text>,
+    said: &mut String,
+) -> Result<(), Memory>
+    requires { All (T.is_listed store.old) names.now.items }
+{
+    for name in names {
+        said.push_str(name.as_str())?;
+        match store.load(alloc, name) {
+            Ok(bytes) => {
+                said.push('=')?;
+                for b in &bytes {
+                    said.push(char::from(*b))?;
+                }
+                said.push(';')?;
+            }
+            Err(_) => {
+                said.push('!')?;
+                return Ok(());
+            }
+        }
+    }
+    Ok(())
+}
+
+#[test]
+fn a_store_in_memory_fails_at_the_named_calls(rt: HostRuntime) -> Result<(), Fail> {
+    let alloc = rt.alloc();
+    let rows = [
+        (0, "no folder"),
+        (1, "no list"),
+        (2, "B.gram!"),
+        (3, "B.gram=x;a.gram!"),
+        (4, "B.gram=x;a.gram=yz;\u{e9}.gram!"),
+        (5, "B.gram=x;a.gram=yz;\u{e9}.gram=;"),
+    ];
+    for (failing, wanted) in rows {
+        let mut files = TextMap::new(alloc);
+        for (name, bytes) in [("a.gram", "yz"), ("\u{e9}.gram", ""), ("B.gram", "x")] {
+            let bytes = Items::from_slice(alloc, bytes.as_bytes())?;
+            files.set(Text::of(alloc, name)?, bytes)?;
+        }
+        let mut store = MemStore::of(files, vec![in alloc; failing]?);
+        let said = shown(alloc, &mut store, &Text::of(alloc, "f")?)?;
+        assert_eq!(rt; said.as_str(), wanted, "call {failing} fails");
+    }
+    Ok(())
+}
