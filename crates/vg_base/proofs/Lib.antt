@@ -1,3 +1,4 @@
+pub mod Ascii
 pub mod Bytes
 pub mod Firsts
 pub mod Joined

@@ -1,0 +1,15 @@
+pub mod AloneViews
+pub mod Counts
+pub mod Decode
+pub mod Depth
+pub mod Inversions
+pub mod LeafWords
+pub mod Listing
+pub mod Lists
+pub mod Lockstep
+pub mod Orderly
+pub mod Orders
+pub mod Paths
+pub mod SortedLists
+pub mod Sorting
+pub mod Views

@@ -1,0 +1,13 @@
+pub mod Alone
+pub mod Choices
+pub mod Comparing
+pub mod Derives
+pub mod DocSets
+pub mod Firsts
+pub mod Leaves
+pub mod Links
+pub mod Longer
+pub mod Reached
+pub mod Samples
+pub mod Size
+pub mod Laws

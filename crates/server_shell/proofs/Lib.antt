@@ -1,0 +1,11 @@
+pub mod Writing
+pub mod Turning
+pub mod Runs
+pub mod Progress
+pub mod Ending
+pub mod Counts
+pub mod Reading
+pub mod TextWords
+pub mod Cuts
+pub mod Formed
+pub mod Stripped

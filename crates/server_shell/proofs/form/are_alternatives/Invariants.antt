@@ -1,0 +1,10 @@
+use Rattle.std.proofs.Common.{◌≡◌, ◌≢◌, ◌++◌, ◌∷◌, [], ℕ, List, ◌↔◌, IsTrue, MatchOption, IfSome, IfOk, codes, ◌+◌, ◌-◌, ◌*◌, ◌<◌, ◌≤◌, length}
+use Rattle.std.specs.List.{list_all, list_any, Contains, All}
+use Rattle.server_shell.specs.Forms.{IsKey, IsName, Spells, SpellsRest, SpellsRule, alternatives_of, is_alternative, is_blank, is_letter, is_letter_or, parts_of}
+use Rattle.server_shell.proofs.form.are_alternatives.Given as goal
+
+abbrev pub invariant-loop-part : goal.invariant-loop-part
+invariant-loop-part l = list_all is_alternative (parts_of l.text) ≡ list_all is_alternative (parts_of l.rest)
+
+abbrev pub decreases-loop-part : goal.decreases-loop-part
+decreases-loop-part l = length l.rest

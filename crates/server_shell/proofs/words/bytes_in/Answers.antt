@@ -1,0 +1,10 @@
+use Rattle.std.proofs.Common.{◌≡◌, ◌+◌, ℕ, List, length, take, arith, sym, ap}
+use Rattle.server_shell.specs.Words.{bytes_in}
+use Rattle.server_shell.proofs.TextWords.{bytes_in-more}
+use Rattle.server_shell.proofs.words.bytes_in.Goals as goal
+
+pub loop-word-preserved : goal.loop-word-preserved
+loop-word-preserved c =
+    let more = bytes_in-more c.args.words.now c.loop-word.word-index c.word-item.result c.loop-word-test.true (sym c.word-item.is) in
+    let len = ap (length {A = ℕ}) c.as_str.ensures.bytes in
+    omega (arith, c.loop-word.invariant, c.ranges.most.fits, c.requires)

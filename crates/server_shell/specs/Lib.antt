@@ -1,0 +1,11 @@
+pub mod Commands
+pub mod Words
+pub mod Forms
+pub mod State
+pub mod Replies
+pub mod Runs
+pub mod Answers
+pub mod Lines
+pub mod Served
+pub mod Turn
+pub mod Codes

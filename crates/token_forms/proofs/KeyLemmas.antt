@@ -1,0 +1,136 @@
+-- A text is divided into the pieces of its keys in one way.
+use Rattle.std.proofs.Common.{◌≡◌, ℕ, ◌<◌, Bool, true, false, not, eqb, List, [], ◌∷◌, ◌++◌, length, Option, Some, None, refl, ap, sym, ◌∙◌, arith, codes}
+use Rattle.std.specs.List.{flat_map, filter_map, cons_option, AllByRecursion}
+use Rattle.std.proofs.lemmas.List.{append_assoc, append-nil}
+use Rattle.std.proofs.lemmas.Grind.{flat_map-append}
+use Rattle.std.proofs.lemmas.List.Elements.{filter_map-append}
+use Rattle.std.proofs.lemmas.Bool.{false≢true}
+use Rattle.vg_base.proofs.Ascii.{passes}
+use Rattle.std.proofs.lemmas.Bool.Decides.{nat_tests}
+use Rattle.vg_base.specs.Characters.{is_space}
+use Rattle.token_forms.specs.Keys.{is_key, Piece, Key, Star, Pound, Space, IsPiece, spelling, key_of, BeginsNoPiece, Divides, AreKeys, IsBadKeyAt, TakesPiece}
+
+-- white space is no key
+spaces_apart : (c : ℕ) → is_space c ≡ true → is_key c ≡ true → ⊥
+spaces_apart c s k = false≢true (sym (ap not s) ∙ passes (λ x. not (is_space x)) (codes "0123456789*#ABCD") c refl k)
+
+-- one character is not another
+differ : (c d : ℕ) (r s : List ℕ) → eqb c d ≡ false → c ∷ r ≡ d ∷ s → ⊥
+differ c d r s n e = let h : c ≡ d = cc in false≢true (sym n ∙ ap (λ x. eqb x d) h ∙ is_same d)
+  where
+    is_same : (x : ℕ) → eqb x x ≡ true
+    is_same x = grind (arith, nat_tests)
+
+-- the first piece of a text is one
+pub same_piece : (p q : Piece) (r s : List ℕ) → IsPiece p → IsPiece q → spelling p ++ r ≡ spelling q ++ s → (p ≡ q) × (r ≡ s)
+same_piece (Key c) (Key d) r s p q e = let h : c ≡ d = cc in let t : r ≡ s = cc in (cc, t)
+same_piece (Key c) Star r s p q e = absurd (let h : c ≡ 115 = cc in false≢true (ap is_key (sym h) ∙ p))
+same_piece (Key c) Pound r s p q e = absurd (let h : c ≡ 112 = cc in false≢true (ap is_key (sym h) ∙ p))
+same_piece (Key c) (Space d) r s p q e = absurd (let h : c ≡ d = cc in spaces_apart d q (ap is_key (sym h) ∙ p))
+same_piece Star (Key d) r s p q e = absurd (let h : d ≡ 115 = cc in false≢true (ap is_key (sym h) ∙ q))
+same_piece Star Star r s p q e = let t : r ≡ s = cc in (refl, t)
+same_piece Star Pound r s p q e = absurd (differ 115 112 _ _ refl e)
+same_piece Star (Space d) r s p q e = absurd (let h : d ≡ 115 = cc in false≢true (ap is_space (sym h) ∙ q))
+same_piece Pound (Key d) r s p q e = absurd (let h : d ≡ 112 = cc in false≢true (ap is_key (sym h) ∙ q))
+same_piece Pound Star r s p q e = absurd (differ 112 115 _ _ refl e)
+same_piece Pound Pound r s p q e = let t : r ≡ s = cc in (refl, t)
+same_piece Pound (Space d) r s p q e = absurd (let h : d ≡ 112 = cc in false≢true (ap is_space (sym h) ∙ q))
+same_piece (Space c) (Key d) r s p q e = absurd (let h : c ≡ d = cc in spaces_apart c p (ap is_key h ∙ q))
+same_piece (Space c) Star r s p q e = absurd (let h : c ≡ 115 = cc in false≢true (ap is_space (sym h) ∙ p))
+same_piece (Space c) Pound r s p q e = absurd (let h : c ≡ 112 = cc in false≢true (ap is_space (sym h) ∙ p))
+same_piece (Space c) (Space d) r s p q e = let h : c ≡ d = cc in let t : r ≡ s = cc in (cc, t)
+
+-- nothing begins with no piece
+pub nothing : BeginsNoPiece []
+nothing (Key c) more p e = cc
+nothing Star more p e = cc
+nothing Pound more p e = cc
+nothing (Space c) more p e = cc
+
+-- where one text is divided in two ways, each as far as it can be, they are one
+once : (ps qs : List Piece) (r s : List ℕ) → AllByRecursion IsPiece ps → AllByRecursion IsPiece qs
+    → flat_map spelling ps ++ r ≡ flat_map spelling qs ++ s → BeginsNoPiece r → BeginsNoPiece s → (ps ≡ qs) × (r ≡ s)
+once [] [] r s a b e t u = (refl, e)
+once [] (q ∷ qs) r s a b e t u = absurd (t q (flat_map spelling qs ++ s) b.0 (e ∙ append_assoc (spelling q) (flat_map spelling qs) s))
+once (p ∷ ps) [] r s a b e t u = absurd (u p (flat_map spelling ps ++ r) a.0 (sym e ∙ append_assoc (spelling p) (flat_map spelling ps) r))
+once (p ∷ ps) (q ∷ qs) r s a b e t u =
+    let regrouped = sym (append_assoc (spelling p) (flat_map spelling ps) r) ∙ (e ∙ append_assoc (spelling q) (flat_map spelling qs) s) in
+    let first = same_piece p q (flat_map spelling ps ++ r) (flat_map spelling qs ++ s) a.0 b.0 regrouped in
+    let others = once ps qs r s a.1 b.1 first.1 t u in
+    let here : p ≡ q = first.0 in
+    let there : ps ≡ qs = others.0 in
+    (cc, others.1)
+
+pub divides_once : (text : List ℕ) (these those : List Piece) (this that : List ℕ) → Divides text these this → Divides text those that
+    → BeginsNoPiece this → BeginsNoPiece that → (these ≡ those) × (this ≡ that)
+divides_once text these those this that d f t u = once these those this that d.each f.each (sym d.whole ∙ f.whole) t u
+
+pub one_list : (text : List ℕ) (these those : List (List ℕ)) → AreKeys these text → AreKeys those text → these ≡ those
+one_list text these those a b = a.2 ∙ (ap (filter_map key_of) (divides_once text a.0 b.0 [] [] a.1 b.1 nothing nothing).0 ∙ sym b.2)
+
+pub one_place : (text : List ℕ) (here there : ℕ) → IsBadKeyAt here text → IsBadKeyAt there text → here ≡ there
+one_place text here there a b =
+    a.place ∙ (ap (λ ps. length (flat_map spelling ps)) (divides_once text a.pieces b.pieces a.rest b.rest a.divides b.divides a.stuck b.stuck).0 ∙ sym b.place)
+
+pub not_both : (text : List ℕ) (pieces : List Piece) (at : ℕ) → Divides text pieces [] → IsBadKeyAt at text → ⊥
+not_both text pieces at d b = b.some (sym (divides_once text pieces b.pieces [] b.rest d b.divides nothing b.stuck).1)
+
+-- the next piece joins those before it
+all_more : (ps : List Piece) (p : Piece) → AllByRecursion IsPiece ps → IsPiece p → AllByRecursion IsPiece (ps ++ p ∷ [])
+all_more [] p a h = (h, tt)
+all_more (q ∷ ps) p a h = (a.0, all_more ps p a.1 h)
+
+pub divides_more : (text : List ℕ) (pieces : List Piece) (rest : List ℕ) (key : Option ℕ) (after : List ℕ) → Divides text pieces rest
+    → (t : TakesPiece rest key after) → Divides text (pieces ++ t.piece ∷ []) after
+divides_more text pieces rest key after d t = record {
+  each = all_more pieces t.piece d.each t.is_piece;
+  whole = d.whole ∙ (ap (λ r. flat_map spelling pieces ++ r) t.whole
+      ∙ (sym (append_assoc (flat_map spelling pieces) (spelling t.piece) after)
+      ∙ ap (λ f. f ++ after) (ap (λ l. flat_map spelling pieces ++ l) (sym (append-nil (spelling t.piece))) ∙ sym (flat_map-append spelling pieces (t.piece ∷ [])))));
+}
+
+-- the keys of the pieces so far
+pub record SoFar (text : List ℕ) (keys : List (List ℕ)) (rest : List ℕ) : Type 0 where
+  pub pieces : List Piece
+  pub divides : Divides text pieces rest
+  pub spelled : keys ≡ filter_map key_of pieces
+
+module _ (text : List ℕ) (keys : List (List ℕ)) (rest after : List ℕ) where
+  pub key_more : (key : ℕ) → SoFar text keys rest → TakesPiece rest (Some key) after → SoFar text (keys ++ (key ∷ []) ∷ []) after
+  key_more key s t = record {
+    pieces = s.pieces ++ t.piece ∷ [];
+    divides = divides_more text s.pieces rest (Some key) after s.divides t;
+    spelled = ap (λ ks. ks ++ (key ∷ []) ∷ []) s.spelled
+        ∙ (ap (λ o. filter_map key_of s.pieces ++ cons_option o []) (sym t.means) ∙ sym (filter_map-append key_of s.pieces (t.piece ∷ [])));
+  }
+
+  pub space_more : SoFar text keys rest → TakesPiece rest None after → SoFar text keys after
+  space_more s t = record {
+    pieces = s.pieces ++ t.piece ∷ [];
+    divides = divides_more text s.pieces rest None after s.divides t;
+    spelled = s.spelled ∙ (sym (append-nil (filter_map key_of s.pieces))
+        ∙ (ap (λ o. filter_map key_of s.pieces ++ cons_option o []) (sym t.means) ∙ sym (filter_map-append key_of s.pieces (t.piece ∷ []))));
+  }
+
+pub none_yet : (text : List ℕ) → SoFar text [] text
+none_yet text = record { pieces = []; divides = record { each = tt; whole = refl }; spelled = refl }
+
+-- a piece isn't empty
+pub shorter : (text : List ℕ) (key : Option ℕ) (rest : List ℕ) → TakesPiece text key rest → length rest < length text
+shorter text key rest t = go t.piece (ap length t.whole)
+  where
+    go : (p : Piece) → length text ≡ length (spelling p ++ rest) → length rest < length text
+    go (Key c) e = omega arith
+    go Star e = omega arith
+    go Pound e = omega arith
+    go (Space c) e = omega arith
+
+-- the key that a piece stands for is one
+pub stands_for : (text : List ℕ) (key : ℕ) (rest : List ℕ) → TakesPiece text (Some key) rest → is_key key ≡ true
+stands_for text key rest t = go t.piece t.is_piece t.means
+  where
+    go : (p : Piece) → IsPiece p → key_of p ≡ Some (key ∷ []) → is_key key ≡ true
+    go (Key c) h e = let same : c ≡ key = cc in ap is_key (sym same) ∙ h
+    go Star h e = let same : 42 ≡ key = cc in ap is_key (sym same)
+    go Pound h e = let same : 35 ≡ key = cc in ap is_key (sym same)
+    go (Space c) h e = cc
