@@ -1,14 +1,20 @@
--- What is known of turns over few words, and of a tree that is the only one.
-use Rattle.std.proofs.Common.{ℕ, ◌≡◌, ◌⊎◌, List, [], ◌∷◌, refl, sym, ap, ◌∙◌, subst, inl, inr}
+-- What is known of a rule's body, of turns over few words, and of a tree that is the only one.
+use Rattle.std.proofs.Common.{ℕ, ◌≡◌, ◌⊎◌, List, [], ◌∷◌, Some, refl, sym, ap, ◌∙◌, subst, inl, inr}
 use Rattle.std.specs.declared.cmp.Ordering.TheVariants.{Equal, Greater}
 use Rattle.vg_base.specs.declared.numbers.NodeIx.{NodeIx}
+use Rattle.vg_base.specs.declared.numbers.RuleIx.{RuleIx}
+use Rattle.grammar_tree.specs.declared.linked.LinkedRule.{LinkedRule}
 use Rattle.grammar_tree.specs.declared.parse_tree.ParseTree.{ParseTree}
-use Rattle.grammar_tree.specs.Links.{Rules}
-use Rattle.grammar_tree.specs.Derives.{Words, Derives, DerivesTurns, no_turn, turn}
+use Rattle.grammar_tree.specs.Links.{Rules, rule_at}
+use Rattle.grammar_tree.specs.Derives.{Words, OfBody, Derives, DerivesTurns, no_turn, turn}
 use Rattle.grammar_tree.specs.Choices.{choices}
 use Rattle.grammar_tree.specs.Firsts.{First}
 use Rattle.grammar_tree.proofs.Lists.{nil_front, one_cut}
 use Rattle.grammar_tree.proofs.Orders.{same-Equal}
+
+-- what holds of a rule's body holds of the body that is there
+pub at_body : (L : Rules) (r : RuleIx) (P : NodeIx → Type 0) (there : LinkedRule) → rule_at L r ≡ Some there → OfBody L r P → P there.body
+at_body L r P there e h = let same : h.0 ≡ there = cc (sym h.1 ∙ e) in subst (λ (rule : LinkedRule). P rule.body) same h.2
 
 module _ (L : Rules) where
   -- no turn that has a word is over no words

@@ -11,7 +11,7 @@ use Rattle.grammar_tree.specs.Derives.{Words, Derives, HasTree}
 use Rattle.grammar_tree.specs.Choices.{choices}
 use Rattle.grammar_tree.specs.Firsts.{choice_cmp, First, InOrder}
 use Rattle.grammar_tree.specs.Alone.{NoSelfDerivation}
-use Rattle.grammar_tree.specs.Laws.{TreesAreFinitelyMany, FirstExists, FirstsAreUnique, FirstsExist, FirstIsFirstOfOne, NoFirstsWithoutTree}
+use Rattle.grammar_tree.specs.Laws.{TreesAreFinitelyMany, FirstExists, FirstsAreUnique, FirstsExist, FirstIsFirstsOfOne, NoFirstsWithoutTree}
 use Rattle.grammar_tree.proofs.Depth.{rank_of, height-le}
 use Rattle.grammar_tree.proofs.Orderly.{equal_choices, turned}
 use Rattle.grammar_tree.proofs.Lists.{In, in_map, in_if_contained, contained_if_in}
@@ -164,7 +164,7 @@ firsts_unique L n ws k ts us a b = a.2 ∙ ap (take k) (one_sorted (choices L n)
     among : (ts us : List ParseTree) → InOrder L n ws ts → InOrder L n ws us → (t : ParseTree) → In (λ u. u ≡ t) ts → In (λ u. u ≡ t) us
     among ts us o q t h = in_if_contained us t ((q.trees t).1 ((o.trees t).0 (contained_if_in ts t h)))
 
-pub first_of_one : FirstIsFirstOfOne
+pub first_of_one : FirstIsFirstsOfOne
 first_of_one L n ws ts f t = at f.0 f.1 f.2
   where
     at : (all : List ParseTree) → InOrder L n ws all → ts ≡ take 1 all → First L n ws t ↔ (ts ≡ t ∷ [])

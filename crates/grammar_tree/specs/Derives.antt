@@ -58,5 +58,8 @@ CanBeEmpty L n = HasTree L n []
 abbrev pub OfBody : Rules → RuleIx → (NodeIx → Type 0) → Type 0
 OfBody L r P = (rule : LinkedRule) × (rule_at L r ≡ Some rule) × P rule.body
 
+abbrev pub RuleHasTree : Rules → RuleIx → Words → Type 0
+RuleHasTree L r ws = OfBody L r (λ n. HasTree L n ws)
+
 abbrev pub RuleDerives : Rules → RuleIx → Words → ParseTree → Type 0
 RuleDerives L r ws t = OfBody L r (λ n. Derives L n ws t)

@@ -7,9 +7,10 @@ use Rattle.std.specs.Cmp.Lexicographic.{slice_cmp}
 use Rattle.std.specs.declared.cmp.Ordering.{Ordering}
 use Rattle.std.specs.declared.cmp.Ordering.TheVariants.{Greater}
 use Rattle.vg_base.specs.declared.numbers.NodeIx.{NodeIx}
+use Rattle.vg_base.specs.declared.numbers.RuleIx.{RuleIx}
 use Rattle.grammar_tree.specs.declared.parse_tree.ParseTree.{ParseTree}
 use Rattle.grammar_tree.specs.Links.{Rules}
-use Rattle.grammar_tree.specs.Derives.{Words, Derives}
+use Rattle.grammar_tree.specs.Derives.{Words, Derives, OfBody}
 use Rattle.grammar_tree.specs.Choices.{choices}
 
 -- the lexicographic order of lists of choices
@@ -29,3 +30,10 @@ pub record InOrder (L : Rules) (n : NodeIx) (ws : Words) (ts : List ParseTree) :
 -- the first k trees, or all where there are fewer
 abbrev pub Firsts : Rules → NodeIx → Words → ℕ → List ParseTree → Type 0
 Firsts L n ws k ts = (all : List ParseTree) × InOrder L n ws all × (ts ≡ take k all)
+
+-- the first tree, and the first k trees, of a rule are those of its body
+abbrev pub RuleFirst : Rules → RuleIx → Words → ParseTree → Type 0
+RuleFirst L r ws t = OfBody L r (λ n. First L n ws t)
+
+abbrev pub RuleFirsts : Rules → RuleIx → Words → ℕ → List ParseTree → Type 0
+RuleFirsts L r ws k ts = OfBody L r (λ n. Firsts L n ws k ts)

@@ -55,8 +55,8 @@ abbrev pub FirstsExist : Type 0
 FirstsExist = (L : Rules) → IsLinked L → NoSelfDerivation L → (n : NodeIx) (ws : Words) (k : ℕ) → (ts : List ParseTree) × Firsts L n ws k ts
 
 -- the first tree is the only one of the first trees cut after one
-abbrev pub FirstIsFirstOfOne : Type 0
-FirstIsFirstOfOne = (L : Rules) (n : NodeIx) (ws : Words) (ts : List ParseTree) → Firsts L n ws 1 ts → (t : ParseTree) → First L n ws t ↔ (ts ≡ t ∷ [])
+abbrev pub FirstIsFirstsOfOne : Type 0
+FirstIsFirstsOfOne = (L : Rules) (n : NodeIx) (ws : Words) (ts : List ParseTree) → Firsts L n ws 1 ts → (t : ParseTree) → First L n ws t ↔ (ts ≡ t ∷ [])
 
 -- there are no first trees exactly where there is no tree
 abbrev pub NoFirstsWithoutTree : Type 0

@@ -1,6 +1,6 @@
 //! What is so of every derivation: laws of the definitions, each the contract of a function that does nothing.
 
-ghost use Rattle.grammar_tree.specs.Laws.{LeavesAreWords, EqualChoicesAreOneTree, NoChoicesGoOn, ChoicesTellTrees, TreesAreInOrder, TreesAreFinitelyMany, FirstIsUnique, FirstExists, FirstsAreUnique, FirstsExist, FirstIsFirstOfOne, NoFirstsWithoutTree};
+ghost use Rattle.grammar_tree.specs.Laws.{LeavesAreWords, EqualChoicesAreOneTree, NoChoicesGoOn, ChoicesTellTrees, TreesAreInOrder, TreesAreFinitelyMany, FirstIsUnique, FirstExists, FirstsAreUnique, FirstsExist, FirstIsFirstsOfOne, NoFirstsWithoutTree};
 
 /// The words that a node derives are those at the leaves of its tree.
 pub fn leaves_are_words()
@@ -30,6 +30,6 @@ pub fn first_is_one()
 pub fn firsts_are_one()
     ensures unique { FirstsAreUnique }
     ensures exists { FirstsExist }
-    ensures single { FirstIsFirstOfOne }
+    ensures single { FirstIsFirstsOfOne }
     ensures none { NoFirstsWithoutTree }
 {}

@@ -5,38 +5,39 @@ ghost use Rattle.grammar_tree.specs.declared.expansion.TagNode.{TagNode};
 ghost use Rattle.grammar_tree.specs.declared.parse_tree.ParseTree.{ParseTree};
 ghost use Rattle.grammar_tree.specs.declared.parse_tree.ParseTree.TheVariants as tree;
 ghost use Rattle.grammar_tree.specs.Links.{IsLinked};
-ghost use Rattle.grammar_tree.specs.Derives.{Derives, HasTree};
-ghost use Rattle.grammar_tree.specs.Firsts.{First, Firsts};
+ghost use Rattle.grammar_tree.specs.Derives.{RuleDerives, RuleHasTree};
+ghost use Rattle.grammar_tree.specs.Firsts.{RuleFirst, RuleFirsts};
 ghost use Rattle.grammar_tree.specs.Alone.{SelfDerive, NoSelfDerivation};
 ghost use Rattle.grammar_tree.specs.Samples.{at, rule, xs, token_x, empty_turns, optional_repeated, alternatives, left_recursion, left_tree, self_reference};
 
 /// `$r = ([x] {tag}) <0->;`: over no words there is no turn, so no tag is visited; over `x` there is one.
 pub fn empty_turns_are_not_taken()
     ensures linked { (tag : TagNode) → IsLinked (empty_turns tag) }
-    ensures none { (tag : TagNode) (t : ParseTree) → Derives (empty_turns tag) (at 0) [] t → t ≡ tree.Rep [] }
-    ensures one { (tag : TagNode) → First (empty_turns tag) (at 0) (xs 1) (tree.Rep (tree.Seq (tree.Rep (token_x ∷ []) ∷ (tree.Tag (at 4) ∷ [])) ∷ [])) }
+    ensures none { (tag : TagNode) (t : ParseTree) → RuleDerives (empty_turns tag) (rule 0) [] t → t ≡ tree.Rep [] }
+    ensures one { (tag : TagNode) → RuleFirst (empty_turns tag) (rule 0) (xs 1) (tree.Rep (tree.Seq (tree.Rep (token_x ∷ []) ∷ (tree.Tag (at 4) ∷ [])) ∷ [])) }
 {}
 
 /// `$r = [x] <2>;`: over one `x` the first turn takes it; three are too many.
 pub fn optional_turns_may_be_empty()
     ensures linked { IsLinked optional_repeated }
-    ensures first { First optional_repeated (at 0) (xs 1) (tree.Rep (tree.Rep (token_x ∷ []) ∷ (tree.Rep [] ∷ []))) }
-    ensures three { HasTree optional_repeated (at 0) (xs 3) → ⊥ }
+    ensures first { RuleFirst optional_repeated (rule 0) (xs 1) (tree.Rep (tree.Rep (token_x ∷ []) ∷ (tree.Rep [] ∷ []))) }
+    ensures three { RuleHasTree optional_repeated (rule 0) (xs 3) → ⊥ }
 {}
 
 /// `$r = (x | x {tag});`: the first alternative comes first, and there are two trees.
 pub fn first_alternative_wins()
     ensures linked { (tag : TagNode) → IsLinked (alternatives tag) }
-    ensures first { (tag : TagNode) → First (alternatives tag) (at 0) (xs 1) (tree.Alt 0 token_x) }
-    ensures both { (tag : TagNode) → Firsts (alternatives tag) (at 0) (xs 1) 4 (tree.Alt 0 token_x ∷ (tree.Alt 1 (tree.Seq (token_x ∷ (tree.Tag (at 4) ∷ []))) ∷ [])) }
+    ensures first { (tag : TagNode) → RuleFirst (alternatives tag) (rule 0) (xs 1) (tree.Alt 0 token_x) }
+    ensures both { (tag : TagNode) → RuleFirsts (alternatives tag) (rule 0) (xs 1) 4 (tree.Alt 0 token_x ∷ (tree.Alt 1 (tree.Seq (token_x ∷ (tree.Tag (at 4) ∷ []))) ∷ [])) }
 {}
 
 /// `$r = $r x | x;`: any number of `x` but none has one tree, and the rule doesn't derive itself.
 pub fn left_recursion_ends()
     ensures linked { IsLinked left_recursion }
     ensures sound { NoSelfDerivation left_recursion }
-    ensures none { HasTree left_recursion (at 0) [] → ⊥ }
-    ensures first { (more : ℕ) → First left_recursion (at 0) (xs (more + 1)) (left_tree more) }
+    ensures none { RuleHasTree left_recursion (rule 0) [] → ⊥ }
+    ensures first { (more : ℕ) → RuleFirst left_recursion (rule 0) (xs (more + 1)) (left_tree more) }
+    ensures only { (more : ℕ) (t : ParseTree) → RuleDerives left_recursion (rule 0) (xs (more + 1)) t → t ≡ left_tree more }
 {}
 
 /// `$r = $a; $a = $a | x;`: of the two rules `$a` alone derives itself.

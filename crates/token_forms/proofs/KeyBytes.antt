@@ -1,12 +1,11 @@
 -- Pieces are of ASCII, so they stand in a text's bytes as they do in its characters.
-use Rattle.std.proofs.Common.{◌≡◌, ℕ, ◌<◌, ◌-◌, Bool, true, ◌||◌, ◌&&◌, eqb, ltb, List, [], ◌∷◌, ◌++◌, length, refl, ap, sym, ◌∙◌, subst, inl, inr, arith, codes}
+use Rattle.std.proofs.Common.{◌≡◌, ℕ, ◌<◌, ◌-◌, true, ◌||◌, ◌&&◌, eqb, List, [], ◌∷◌, ◌++◌, length, refl, ap, sym, ◌∙◌, subst, inl, inr, arith, codes}
 use Rattle.std.specs.List.{flat_map, filter_map, list_all, AllByRecursion}
 use Rattle.std.proofs.lemmas.Bool.{or_cases, eqb-true}
 use Rattle.vg_base.proofs.Ascii.{passes, is_small, small_ascii, past_small}
 use Rattle.std.specs.Str.{encode_utf8_all}
 use Rattle.std.proofs.lemmas.Str.{encodes-append, encodes-IsAscii, length-le-encodes}
 use Rattle.std.proofs.lemmas.List.{append_assoc, length-append}
-use Rattle.std.proofs.lemmas.Bool.Decides.{nat_tests}
 use Rattle.vg_base.specs.Characters.{is_space}
 use Rattle.token_forms.specs.Keys.{Piece, Key, Star, Pound, Space, IsPiece, spelling, key_of, BeginsNoPiece, Divides, AreKeys, IsBadKeyAt}
 use Rattle.token_forms.proofs.KeyLemmas.{divides_once, nothing}

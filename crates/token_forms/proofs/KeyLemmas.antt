@@ -1,12 +1,13 @@
 -- A text is divided into the pieces of its keys in one way.
-use Rattle.std.proofs.Common.{◌≡◌, ℕ, ◌<◌, Bool, true, false, not, eqb, List, [], ◌∷◌, ◌++◌, length, Option, Some, None, refl, ap, sym, ◌∙◌, arith, codes}
-use Rattle.std.specs.List.{flat_map, filter_map, cons_option, AllByRecursion}
+use Rattle.std.proofs.Common.{◌≡◌, ◌≢◌, ℕ, zero, suc, ◌<◌, ◌≤◌, drop, ◌⊎◌, inl, inr, true, false, not, eqb, List, [], ◌∷◌, ◌++◌, length, Option, Some, None, refl, ap, sym, ◌∙◌, arith, codes}
+use Rattle.std.specs.List.{flat_map, filter_map, cons_option, starts_with, AllByRecursion}
 use Rattle.std.proofs.lemmas.List.{append_assoc, append-nil}
 use Rattle.std.proofs.lemmas.Grind.{flat_map-append}
 use Rattle.std.proofs.lemmas.List.Elements.{filter_map-append}
-use Rattle.std.proofs.lemmas.Bool.{false≢true}
+use Rattle.std.proofs.lemmas.Bool.{false≢true, cases_Bool}
+use Rattle.std.proofs.lemmas.Slice.Eq.{starts_is}
 use Rattle.vg_base.proofs.Ascii.{passes}
-use Rattle.std.proofs.lemmas.Bool.Decides.{nat_tests}
+use Rattle.std.proofs.lemmas.Bool.Decides.{nat_tests, Decides-eqb}
 use Rattle.vg_base.specs.Characters.{is_space}
 use Rattle.token_forms.specs.Keys.{is_key, Piece, Key, Star, Pound, Space, IsPiece, spelling, key_of, BeginsNoPiece, Divides, AreKeys, IsBadKeyAt, TakesPiece}
 
@@ -116,14 +117,14 @@ pub none_yet : (text : List ℕ) → SoFar text [] text
 none_yet text = record { pieces = []; divides = record { each = tt; whole = refl }; spelled = refl }
 
 -- a piece isn't empty
+shorter-piece : (text rest : List ℕ) (p : Piece) → text ≡ spelling p ++ rest → length rest < length text
+shorter-piece text rest (Key c) e = omega (arith, ap length e)
+shorter-piece text rest Star e = omega (arith, ap length e)
+shorter-piece text rest Pound e = omega (arith, ap length e)
+shorter-piece text rest (Space c) e = omega (arith, ap length e)
+
 pub shorter : (text : List ℕ) (key : Option ℕ) (rest : List ℕ) → TakesPiece text key rest → length rest < length text
-shorter text key rest t = go t.piece (ap length t.whole)
-  where
-    go : (p : Piece) → length text ≡ length (spelling p ++ rest) → length rest < length text
-    go (Key c) e = omega arith
-    go Star e = omega arith
-    go Pound e = omega arith
-    go (Space c) e = omega arith
+shorter text key rest t = shorter-piece text rest t.piece t.whole
 
 -- the key that a piece stands for is one
 pub stands_for : (text : List ℕ) (key : ℕ) (rest : List ℕ) → TakesPiece text (Some key) rest → is_key key ≡ true
@@ -134,3 +135,60 @@ stands_for text key rest t = go t.piece t.is_piece t.means
     go Star h e = let same : 42 ≡ key = cc in ap is_key (sym same)
     go Pound h e = let same : 35 ≡ key = cc in ap is_key (sym same)
     go (Space c) h e = cc
+
+begins : (text front : List ℕ) → ((rest : List ℕ) × (text ≡ front ++ rest)) ⊎ ((rest : List ℕ) → text ≢ front ++ rest)
+begins text front =
+    let s = starts_is Decides-eqb text front (starts_with eqb text front) refl in
+    elim (cases_Bool (starts_with eqb text front)) [
+      | inl e ↦ inl (drop (length front) text, s.0 e)
+      | inr n ↦ inr (λ rest e. false≢true (sym n ∙ s.1 rest e))
+    ]
+
+-- a text begins with a piece, or with none
+first : (c : ℕ) (text : List ℕ) → ((piece : Piece) × (rest : List ℕ) × IsPiece piece × (c ∷ text ≡ spelling piece ++ rest)) ⊎ BeginsNoPiece (c ∷ text)
+first c text = elim (begins (c ∷ text) (codes "star")) [
+  | inl s ↦ inl (Star, s.0, tt, s.1)
+  | inr star ↦ elim (begins (c ∷ text) (codes "pound")) [
+    | inl s ↦ inl (Pound, s.0, tt, s.1)
+    | inr pound ↦ elim (cases_Bool (is_key c)) [
+      | inl k ↦ inl (Key c, text, k, refl)
+      | inr key ↦ elim (cases_Bool (is_space c)) [
+        | inl s ↦ inl (Space c, text, s, refl)
+        | inr space ↦ inr (none star pound key space)
+      ]
+    ]
+  ]
+]
+  where
+    none : ((rest : List ℕ) → c ∷ text ≢ codes "star" ++ rest) → ((rest : List ℕ) → c ∷ text ≢ codes "pound" ++ rest)
+        → is_key c ≡ false → is_space c ≡ false → BeginsNoPiece (c ∷ text)
+    none star pound key space (Key d) more h e = let same : c ≡ d = cc in false≢true (sym key ∙ (ap is_key same ∙ h))
+    none star pound key space Star more h e = star more e
+    none star pound key space Pound more h e = pound more e
+    none star pound key space (Space d) more h e = let same : c ≡ d = cc in false≢true (sym space ∙ (ap is_space same ∙ h))
+
+-- each text is pieces, and a rest that begins with none
+divided : (n : ℕ) (text : List ℕ) → length text ≤ n → (pieces : List Piece) × (rest : List ℕ) × Divides text pieces rest × BeginsNoPiece rest
+divided n [] h = ([], [], record { each = tt; whole = refl }, nothing)
+divided zero (c ∷ text) h = absurd (omega arith)
+divided (suc n) (c ∷ text) h = elim (first c text) [
+  | inl f ↦
+      let less : length f.1 < length (c ∷ text) = shorter-piece (c ∷ text) f.1 f.0 f.3 in
+      let others = divided n f.1 (omega (arith, less, h)) in (
+        f.0 ∷ others.0,
+        others.1,
+        record {
+          each = (f.2, others.2.each);
+          whole = f.3 ∙ (ap (λ r. spelling f.0 ++ r) others.2.whole ∙ sym (append_assoc (spelling f.0) (flat_map spelling others.0) others.1));
+        },
+        others.3,
+      )
+  | inr none ↦ ([], c ∷ text, record { each = tt; whole = refl }, none)
+]
+
+pub some_division : (text : List ℕ) → ((keys : List (List ℕ)) × AreKeys keys text) ⊎ ((at : ℕ) × IsBadKeyAt at text)
+some_division text = let d = divided (length text) text (omega arith) in go d.0 d.1 d.2 d.3
+  where
+    go : (pieces : List Piece) (rest : List ℕ) → Divides text pieces rest → BeginsNoPiece rest → ((keys : List (List ℕ)) × AreKeys keys text) ⊎ ((at : ℕ) × IsBadKeyAt at text)
+    go pieces [] d s = inl (filter_map key_of pieces, (pieces, d, refl))
+    go pieces (c ∷ rest) d s = inr (length (flat_map spelling pieces), record { pieces = pieces; rest = c ∷ rest; divides = d; some = λ e. cc; stuck = s; place = refl })

@@ -1,9 +1,9 @@
 -- A text is cut into words in one way.
-use Rattle.std.proofs.Common.{◌≡◌, ◌≢◌, ℕ, Bool, true, false, ◌&&◌, ◌||◌, List, [], ◌∷◌, ◌++◌, refl, ap, sym, ◌∙◌, subst, length, ◌<◌, arith}
+use Rattle.std.proofs.Common.{◌≡◌, ◌≢◌, ℕ, Bool, true, false, ◌&&◌, ◌||◌, List, [], ◌∷◌, ◌++◌, refl, ap, sym, ◌∙◌, subst, inl, inr, length, ◌<◌, arith}
 use Rattle.std.proofs.lemmas.List.{append-nil, append_assoc}
 use Rattle.std.specs.List.{list_all, list_any}
 use Rattle.std.specs.Cmp.{first_so, second_so}
-use Rattle.std.proofs.lemmas.Bool.{false≢true, or_parts}
+use Rattle.std.proofs.lemmas.Bool.{false≢true, or_parts, or_from, cases_Bool}
 use Rattle.vg_base.specs.Characters.{is_space, IsWord}
 use Rattle.token_forms.specs.Words.{IsBlank, EndsWord, IsFirstWord, AreWords}
 
@@ -115,3 +115,42 @@ one_list (v ∷ vs) (w ∷ ws) text p q =
     let same : v ≡ w = word.0 in
     let others : vs ≡ ws = one_list vs ws q.0 (subst (AreWords vs) word.1 p.2) q.2 in
     cc
+
+-- a character in front of a word
+longer : (words : List (List ℕ)) (c d : ℕ) (text : List ℕ) → is_space c ≡ false → is_space d ≡ false → AreWords words (d ∷ text)
+    → (more : List (List ℕ)) × AreWords more (c ∷ d ∷ text)
+longer [] c d text n m h = absurd (false≢true (sym m ∙ (from_blank (d ∷ text) h).0))
+longer (word ∷ words) c d text n m h = go h.1.blanks h.1.whole h.1.blank
+  where
+    go : (blanks : List ℕ) → d ∷ text ≡ blanks ++ (word ++ h.0) → IsBlank blanks → (more : List (List ℕ)) × AreWords more (c ∷ d ∷ text)
+    go [] e b = (
+      (c ∷ word) ∷ words,
+      (
+        h.0,
+        record {
+          blanks = [];
+          whole = ap (λ t. c ∷ t) e;
+          blank = refl;
+          not_empty = λ e. cc;
+          one_word = or_from (is_space c) (list_any is_space word) n h.1.one_word;
+          longest = h.1.longest;
+        },
+        h.2,
+      ),
+    )
+    go (x ∷ blanks) e b = let same : d ≡ x = cc in absurd (false≢true (sym m ∙ (ap is_space same ∙ (from_blank (x ∷ blanks) b).0)))
+
+-- a text has a list of words
+pub some_list : (text : List ℕ) → (words : List (List ℕ)) × AreWords words text
+some_list [] = ([], refl)
+some_list (c ∷ text) = elim (cases_Bool (is_space c)) [
+  | inl s ↦ let others = some_list text in (others.0, skip_space others.0 c text s others.1)
+  | inr n ↦ begun text n (some_list text)
+]
+  where
+    begun : (text : List ℕ) → is_space c ≡ false → ((words : List (List ℕ)) × AreWords words text) → (more : List (List ℕ)) × AreWords more (c ∷ text)
+    begun [] n others = ((c ∷ []) ∷ others.0, put_word (c ∷ []) [] others.0 (λ e. cc) (or_from (is_space c) false n refl) tt others.1)
+    begun (d ∷ text) n others = elim (cases_Bool (is_space d)) [
+      | inl s ↦ ((c ∷ []) ∷ others.0, put_word (c ∷ []) (d ∷ text) others.0 (λ e. cc) (or_from (is_space c) false n refl) s others.1)
+      | inr m ↦ longer others.0 c d text n m others.1
+    ]

@@ -1,4 +1,4 @@
-ghost use Rattle.std.specs.Prelude.{◌≡◌, ◌++◌, ◌↔◌, ℕ, List, [], ◌∷◌, true, IfOk, IfSome, IfNone, MatchOption};
+ghost use Rattle.std.specs.Prelude.{◌≡◌, ◌++◌, ◌↔◌, ◌⊎◌, ℕ, List, [], ◌∷◌, true, IfOk, IfSome, IfNone, MatchOption};
 ghost use Rattle.std.specs.List.{filter_map};
 ghost use Rattle.std.specs.Result.{IsErrOf};
 ghost use Rattle.token_forms.specs.Keys.{is_key, Piece, IsPiece, spelling, key_of, BeginsNoPiece, Divides, AreKeys, IsBadKeyAt, TakesPiece};
@@ -118,8 +118,9 @@ fn word_of(alloc: Global, key: char) -> Result<Word, Memory>
     Ok(Word::of(text))
 }
 
-/// No spelling of a key begins another, so a text has one list of keys or one place where it stops to spell keys.
+/// No spelling of a key begins another, so a text has one list of keys, or else one place where it stops to spell keys.
 pub fn keys_are_one()
+    ensures some { (text : List ℕ) → ((keys : List (List ℕ)) × AreKeys keys text) ⊎ ((at : ℕ) × IsBadKeyAt at text) }
     ensures apart { (this that : Piece) (more : List ℕ) → IsPiece this → IsPiece that
         → spelling that ≡ spelling this ++ more → this ≡ that }
     ensures keys { (text : List ℕ) (these those : List (List ℕ)) → AreKeys these text → AreKeys those text → these ≡ those }

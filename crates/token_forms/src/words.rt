@@ -36,7 +36,8 @@ fn end_word(words: &mut Items<Word>, word: Text) -> Result<(), Memory>
     Ok(())
 }
 
-/// A text has one list of words.
+/// A text has a list of words, and no other.
 pub fn words_are_one()
-    ensures { (text : List ℕ) (these those : List (List ℕ)) → AreWords these text → AreWords those text → these ≡ those }
+    ensures some { (text : List ℕ) → (words : List (List ℕ)) × AreWords words text }
+    ensures one { (text : List ℕ) (these those : List (List ℕ)) → AreWords these text → AreWords those text → these ≡ those }
 {}

@@ -4,8 +4,9 @@ use Rattle.grammar_tree.specs.declared.linked.Node.TheVariants as node
 use Rattle.grammar_tree.specs.declared.parse_tree.ParseTree.{ParseTree}
 use Rattle.grammar_tree.specs.declared.parse_tree.ParseTree.TheVariants as tree
 use Rattle.grammar_tree.specs.Derives.{Words, Derives, by_token, by_seq, by_rep, by_tag, DerivesEach, no_part, part, no_turn, turn}
-use Rattle.grammar_tree.specs.Samples.{at, xs, token_x, empty_turns}
-use Rattle.grammar_tree.proofs.Inversions.{no_turns, one_turn, only_first}
+use Rattle.grammar_tree.specs.Firsts.{First}
+use Rattle.grammar_tree.specs.Samples.{at, rule, named, xs, token_x, empty_turns}
+use Rattle.grammar_tree.proofs.Inversions.{at_body, no_turns, one_turn, only_first}
 use Rattle.grammar_tree.proofs.Views.{at_node}
 use Rattle.grammar_tree.proofs.samples.empty_turns_are_not_taken.Goals as goal
 
@@ -43,15 +44,19 @@ is_inner tag t d =
     c.1 ∙ parts_inner tag (xs 1) c.0 refl c.2
 
 pub returns-clause-none : goal.returns-clause-none
-returns-clause-none c tag t d =
+returns-clause-none c tag t h =
+    let d = at_body (empty_turns tag) (rule 0) (λ n. Derives (empty_turns tag) n [] t) (named 114 0) refl h in
     let k = at_node (empty_turns tag) (at 0) [] t (node.Rep 0 None (at 1)) refl d in
     k.1 ∙ ap tree.Rep (no_turns (empty_turns tag) (at 1) [] k.0 refl k.4)
 
-pub returns-clause-one : goal.returns-clause-one
-returns-clause-one c tag =
+first_turn : (tag : TagNode) → First (empty_turns tag) (at 0) (xs 1) (tree.Rep (inner ∷ []))
+first_turn tag =
     only_first (empty_turns tag) (at 0) (xs 1) _
     (by_rep 0 None (at 1) (inner ∷ []) refl refl (omega arith) tt (turn (xs 1) [] refl (λ z e. cc) (derives_inner tag) (no_turn refl)))
     (λ u d.
     let k = at_node (empty_turns tag) (at 0) (xs 1) u (node.Rep 0 None (at 1)) refl d in
     let one = one_turn (empty_turns tag) (at 1) _ (xs 1) k.0 refl k.4 in
     k.1 ∙ ap tree.Rep (one.1 ∙ ap (λ v. v ∷ []) (is_inner tag one.0 one.2)))
+
+pub returns-clause-one : goal.returns-clause-one
+returns-clause-one c tag = (named 114 0, refl, first_turn tag)

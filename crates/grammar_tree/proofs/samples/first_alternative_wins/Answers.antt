@@ -10,7 +10,7 @@ use Rattle.grammar_tree.specs.declared.parse_tree.ParseTree.TheVariants as tree
 use Rattle.grammar_tree.specs.Derives.{Words, Derives, by_token, by_seq, by_alt, by_tag, DerivesEach, no_part, part}
 use Rattle.grammar_tree.specs.Choices.{choices}
 use Rattle.grammar_tree.specs.Firsts.{choice_cmp, InOrder}
-use Rattle.grammar_tree.specs.Samples.{at, xs, token_x, alternatives}
+use Rattle.grammar_tree.specs.Samples.{at, named, xs, token_x, alternatives}
 use Rattle.grammar_tree.proofs.Lists.{In, in_if_contained, contained_if_in}
 use Rattle.grammar_tree.proofs.Sorting.{head_first}
 use Rattle.grammar_tree.proofs.Views.{at_node, chosen_alt}
@@ -77,7 +77,7 @@ module _ (tag : TagNode) where
   }
 
 pub returns-clause-first : goal.returns-clause-first
-returns-clause-first c tag = head_first (alternatives tag) (at 0) (xs 1) first (second ∷ []) (in_order tag)
+returns-clause-first c tag = (named 114 0, refl, head_first (alternatives tag) (at 0) (xs 1) first (second ∷ []) (in_order tag))
 
 pub returns-clause-both : goal.returns-clause-both
-returns-clause-both c tag = (first ∷ (second ∷ []), in_order tag, refl)
+returns-clause-both c tag = (named 114 0, refl, (first ∷ (second ∷ []), in_order tag, refl))

@@ -7,12 +7,12 @@ use Rattle.grammar_tree.specs.declared.linked.LinkedRule.{LinkedRule}
 use Rattle.grammar_tree.specs.declared.linked.Node.TheVariants as node
 use Rattle.grammar_tree.specs.declared.parse_tree.ParseTree.{ParseTree}
 use Rattle.grammar_tree.specs.declared.parse_tree.ParseTree.TheVariants as tree
-use Rattle.grammar_tree.specs.Derives.{Words, CanBeEmpty, Derives, by_token, by_seq, by_alt, by_ref, DerivesEach, no_part, part}
+use Rattle.grammar_tree.specs.Derives.{Words, CanBeEmpty, HasTree, Derives, by_token, by_seq, by_alt, by_ref, DerivesEach, no_part, part}
 use Rattle.grammar_tree.specs.Alone.{Alone, Leads, LeadsThrough}
 use Rattle.grammar_tree.specs.Samples.{at, rule, named, xs, token_x, left_recursion, left_tree}
 use Rattle.grammar_tree.specs.Firsts.{First}
 use Rattle.grammar_tree.proofs.AloneViews.{alone_view}
-use Rattle.grammar_tree.proofs.Inversions.{only_first}
+use Rattle.grammar_tree.proofs.Inversions.{at_body, only_first}
 use Rattle.grammar_tree.proofs.Views.{at_node}
 use Rattle.grammar_tree.proofs.samples.left_recursion_ends.Goals as goal
 
@@ -95,8 +95,7 @@ not_alone_in (suc (suc k)) p q g a = absurd (cc)
 
 no_lead : (r : ℕ) (q : RuleIx) → Leads left_recursion (rule r) q → ⊥
 no_lead zero q lead =
-    let body : named 114 0 ≡ lead.0 = cc (lead.1) in
-    let c = alone_view left_recursion (at 0) q (subst (λ (b : LinkedRule). Alone left_recursion b.body q) (sym body) lead.2) in
+    let c = alone_view left_recursion (at 0) q (at_body left_recursion (rule 0) (λ n. Alone left_recursion n q) (named 114 0) refl lead) in
     not_alone_in c.0 c.1 q c.2 c.3
 no_lead (suc r) q lead = let none : None ≡ Some lead.0 = lead.1 in cc
 
@@ -108,10 +107,21 @@ returns-clause-sound c r around = at_all around.0 around.1
     at_all (m ∷ ms) l = no_lead r.0 m l.0
 
 pub returns-clause-none : goal.returns-clause-none
-returns-clause-none c h = some_word [] h.0 (step [] h.0 h.1) refl
+returns-clause-none c h =
+    let d = at_body left_recursion (rule 0) (λ n. HasTree left_recursion n []) (named 114 0) refl h in
+    some_word [] d.0 (step [] d.0 d.1) refl
 
 pub returns-clause-first : goal.returns-clause-first
 returns-clause-first c count =
-    let e : suc count ≡ count + 1 = omega arith in
-    subst (λ k. First left_recursion (at 0) (xs k) (left_tree count)) e
-    (only_first left_recursion (at 0) (xs (suc count)) (left_tree count) (derives_tree count) (λ u d. only_tree count (xs (suc count)) u refl (step (xs (suc count)) u d)))
+    let e : suc count ≡ count + 1 = omega arith in (
+      named 114 0,
+      refl,
+      subst (λ k. First left_recursion (at 0) (xs k) (left_tree count)) e
+          (only_first left_recursion (at 0) (xs (suc count)) (left_tree count) (derives_tree count) (λ u d. only_tree count (xs (suc count)) u refl (step (xs (suc count)) u d))),
+    )
+
+pub returns-clause-only : goal.returns-clause-only
+returns-clause-only c count t h =
+    let e : count + 1 ≡ suc count = omega arith in
+    let d = at_body left_recursion (rule 0) (λ n. Derives left_recursion n (xs (count + 1)) t) (named 114 0) refl h in
+    only_tree count (xs (count + 1)) t (ap xs e) (step (xs (count + 1)) t d)

@@ -3,10 +3,11 @@ use Rattle.std.specs.declared.cmp.Ordering.TheVariants.{Less, Equal, Greater}
 use Rattle.grammar_tree.specs.declared.linked.Node.TheVariants as node
 use Rattle.grammar_tree.specs.declared.parse_tree.ParseTree.{ParseTree}
 use Rattle.grammar_tree.specs.declared.parse_tree.ParseTree.TheVariants as tree
-use Rattle.grammar_tree.specs.Derives.{Words, Derives, by_token, by_rep, DerivesTurns, no_turn, turn}
+use Rattle.grammar_tree.specs.Derives.{Words, HasTree, Derives, by_token, by_rep, DerivesTurns, no_turn, turn}
 use Rattle.grammar_tree.specs.Choices.{choices}
-use Rattle.grammar_tree.specs.Firsts.{choice_cmp}
-use Rattle.grammar_tree.specs.Samples.{at, xs, token_x, optional_repeated}
+use Rattle.grammar_tree.specs.Firsts.{choice_cmp, First}
+use Rattle.grammar_tree.specs.Samples.{at, rule, named, xs, token_x, optional_repeated}
+use Rattle.grammar_tree.proofs.Inversions.{at_body}
 use Rattle.grammar_tree.proofs.Orders.{same-Equal}
 use Rattle.grammar_tree.proofs.Views.{at_node, chosen_rep, chosen_token}
 use Rattle.grammar_tree.proofs.samples.optional_turns_may_be_empty.Goals as goal
@@ -93,8 +94,8 @@ derives_taken = by_rep 0 (Some 1) (at 2) (token_x ∷ []) refl refl (omega arith
 derives_left_out : Derives optional_repeated (at 1) [] left_out
 derives_left_out = by_rep 0 (Some 1) (at 2) [] refl refl (omega arith) (omega arith) (no_turn refl)
 
-pub returns-clause-first : goal.returns-clause-first
-returns-clause-first c = record {
+first_first : First optional_repeated (at 0) (xs 1) first
+first_first = record {
   derives = by_rep 2 (Some 2) (at 1) (taken ∷ (left_out ∷ [])) refl refl (omega arith) (omega arith)
       (turn (xs 1) [] refl (λ z e. cc) derives_taken (turn [] [] refl (λ z. absurd (omega arith)) derives_left_out (no_turn refl)));
   least = λ u d.
@@ -113,8 +114,12 @@ returns-clause-first c = record {
         ap (λ c. choice_cmp c (1 ∷ (0 ∷ []))) (sym first_chooses) ∙ ap (choice_cmp (choices optional_repeated (at 0) first)) (sym (ap (choices optional_repeated (at 0)) h ∙ other_chooses)) ∙ g in
         let r : Less ≡ Greater = q in cc
 
+pub returns-clause-first : goal.returns-clause-first
+returns-clause-first c = (named 114 0, refl, first_first)
+
 pub returns-clause-three : goal.returns-clause-three
 returns-clause-three c h =
-    let k = at_node optional_repeated (at 0) (xs 3) h.0 (node.Rep 2 (Some 2) (at 1)) refl h.1 in
+    let d = at_body optional_repeated (rule 0) (λ n. HasTree optional_repeated n (xs 3)) (named 114 0) refl h in
+    let k = at_node optional_repeated (at 0) (xs 3) d.0 (node.Rep 2 (Some 2) (at 1)) refl d.1 in
     let short = two_short (xs 3) k.0 2 k.3 k.4 in
     omega (arith, short)

@@ -2,10 +2,10 @@ use Rattle.std.proofs.Common.{ℕ, zero, suc, ◌≡◌, List, [], ◌∷◌, So
 use Rattle.std.specs.Prelude.{slice_get}
 use Rattle.vg_base.specs.declared.numbers.NodeIx.{NodeIx}
 use Rattle.vg_base.specs.declared.numbers.RuleIx.{RuleIx}
-use Rattle.grammar_tree.specs.declared.linked.LinkedRule.{LinkedRule}
 use Rattle.grammar_tree.specs.Alone.{Alone, at_ref, at_alt, Leads, LeadsThrough}
 use Rattle.grammar_tree.specs.Samples.{at, rule, named, self_reference}
 use Rattle.grammar_tree.proofs.AloneViews.{alone_view}
+use Rattle.grammar_tree.proofs.Inversions.{at_body}
 use Rattle.grammar_tree.proofs.samples.self_reference_is_found.Goals as goal
 
 pub returns-clause-itself : goal.returns-clause-itself
@@ -19,11 +19,9 @@ held (suc (suc k)) p q g a = absurd (cc)
 -- each rule leads to the second alone
 to_second : (r : ℕ) (q : RuleIx) → Leads self_reference (rule r) q → rule 1 ≡ q
 to_second zero q lead =
-    let body : named 114 0 ≡ lead.0 = cc (lead.1) in
-    alone_view self_reference (at 0) q (subst (λ (b : LinkedRule). Alone self_reference b.body q) (sym body) lead.2)
+    alone_view self_reference (at 0) q (at_body self_reference (rule 0) (λ n. Alone self_reference n q) (named 114 0) refl lead)
 to_second (suc zero) q lead =
-    let body : named 97 1 ≡ lead.0 = cc (lead.1) in
-    let c = alone_view self_reference (at 1) q (subst (λ (b : LinkedRule). Alone self_reference b.body q) (sym body) lead.2) in
+    let c = alone_view self_reference (at 1) q (at_body self_reference (rule 1) (λ n. Alone self_reference n q) (named 97 1) refl lead) in
     held c.0 c.1 q c.2 c.3
 to_second (suc (suc r)) q lead = let none : None ≡ Some lead.0 = lead.1 in cc
 

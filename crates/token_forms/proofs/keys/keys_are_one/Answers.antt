@@ -1,5 +1,8 @@
-use Rattle.token_forms.proofs.KeyLemmas.{one_list, one_place, not_both}
+use Rattle.token_forms.proofs.KeyLemmas.{some_division, one_list, one_place, not_both}
 use Rattle.token_forms.proofs.keys.keys_are_one.Goals as goal
+
+pub returns-clause-some : goal.returns-clause-some
+returns-clause-some c = some_division
 
 pub returns-clause-keys : goal.returns-clause-keys
 returns-clause-keys c = one_list

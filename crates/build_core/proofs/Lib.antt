@@ -1,0 +1,5 @@
+pub mod Keeps
+pub mod Ends
+pub mod Opens
+pub mod Once
+pub mod Schedule

@@ -1,0 +1,7 @@
+pub mod AllowedLemmas
+pub mod DotsLemmas
+pub mod FaultLemmas
+pub mod PartsLemmas
+pub mod PlainLemmas
+pub mod ReferenceLemmas
+pub mod SplitLemmas
