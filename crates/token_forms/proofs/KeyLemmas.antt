@@ -113,28 +113,12 @@ module _ (text : List ℕ) (keys : List (List ℕ)) (rest after : List ℕ) wher
         ∙ (ap (λ o. filter_map key_of s.pieces ++ cons_option o []) (sym t.means) ∙ sym (filter_map-append key_of s.pieces (t.piece ∷ []))));
   }
 
-pub none_yet : (text : List ℕ) → SoFar text [] text
-none_yet text = record { pieces = []; divides = record { each = tt; whole = refl }; spelled = refl }
-
 -- a piece isn't empty
-shorter-piece : (text rest : List ℕ) (p : Piece) → text ≡ spelling p ++ rest → length rest < length text
-shorter-piece text rest (Key c) e = omega (arith, ap length e)
-shorter-piece text rest Star e = omega (arith, ap length e)
-shorter-piece text rest Pound e = omega (arith, ap length e)
-shorter-piece text rest (Space c) e = omega (arith, ap length e)
-
-pub shorter : (text : List ℕ) (key : Option ℕ) (rest : List ℕ) → TakesPiece text key rest → length rest < length text
-shorter text key rest t = shorter-piece text rest t.piece t.whole
-
--- the key that a piece stands for is one
-pub stands_for : (text : List ℕ) (key : ℕ) (rest : List ℕ) → TakesPiece text (Some key) rest → is_key key ≡ true
-stands_for text key rest t = go t.piece t.is_piece t.means
-  where
-    go : (p : Piece) → IsPiece p → key_of p ≡ Some (key ∷ []) → is_key key ≡ true
-    go (Key c) h e = let same : c ≡ key = cc in ap is_key (sym same) ∙ h
-    go Star h e = let same : 42 ≡ key = cc in ap is_key (sym same)
-    go Pound h e = let same : 35 ≡ key = cc in ap is_key (sym same)
-    go (Space c) h e = cc
+shorter : (text rest : List ℕ) (p : Piece) → text ≡ spelling p ++ rest → length rest < length text
+shorter text rest (Key c) e = omega (arith, ap length e)
+shorter text rest Star e = omega (arith, ap length e)
+shorter text rest Pound e = omega (arith, ap length e)
+shorter text rest (Space c) e = omega (arith, ap length e)
 
 begins : (text front : List ℕ) → ((rest : List ℕ) × (text ≡ front ++ rest)) ⊎ ((rest : List ℕ) → text ≢ front ++ rest)
 begins text front =
@@ -173,7 +157,7 @@ divided n [] h = ([], [], record { each = tt; whole = refl }, nothing)
 divided zero (c ∷ text) h = absurd (omega arith)
 divided (suc n) (c ∷ text) h = elim (first c text) [
   | inl f ↦
-      let less : length f.1 < length (c ∷ text) = shorter-piece (c ∷ text) f.1 f.0 f.3 in
+      let less : length f.1 < length (c ∷ text) = shorter (c ∷ text) f.1 f.0 f.3 in
       let others = divided n f.1 (omega (arith, less, h)) in (
         f.0 ∷ others.0,
         others.1,

@@ -162,10 +162,6 @@ merge_allowed base path b p = cond_both (is_some base.authority && bytes_eq base
     (λ _. p) (λ _. allowed-append (codes "/") (up_to_last slash base.path) path (up_to_last_allowed base.path b) p)
 
 -- References are of ASCII.
-absent_small : (also : List ℕ) (mark : List ℕ) (o : Option (List ℕ)) → list_all is_small also ≡ true → is_absent_or (are_allowed also) o ≡ true → IfSome o (λ t. list_all is_small t ≡ true)
-absent_small also mark None a h = tt
-absent_small also mark (Some t) a h = allowed_small also t a h
-
 small_append : (xs ys : List ℕ) → list_all is_small xs ≡ true → list_all is_small ys ≡ true → list_all is_small (xs ++ ys) ≡ true
 small_append [] ys h g = g
 small_append (x ∷ xs) ys h g =
