@@ -1,22 +1,25 @@
 -- Pieces are of ASCII, so they stand in a text's bytes as they do in its characters.
-use Rattle.std.proofs.Common.{◌≡◌, ℕ, ◌<◌, ◌-◌, true, ◌||◌, ◌&&◌, eqb, List, [], ◌∷◌, ◌++◌, length, refl, ap, sym, ◌∙◌, subst, inl, inr, arith, codes}
+use Rattle.std.proofs.Common.{◌≡◌, ℕ, ◌<◌, ◌-◌, true, ◌||◌, ◌&&◌, nat_le, lit<, List, [], ◌∷◌, ◌++◌, length, refl, ap, sym, ◌∙◌, subst, inl, inr, arith, codes}
 use Rattle.std.specs.List.{flat_map, filter_map, list_all, AllByRecursion}
-use Rattle.std.proofs.lemmas.Bool.{or_cases, eqb-true}
+use Rattle.std.proofs.lemmas.Bool.{or_cases, and_parts, leb-true, lt-ltb}
 use Rattle.vg_base.proofs.Ascii.{passes, is_small, small_ascii, past_small}
 use Rattle.std.specs.Str.{encode_utf8_all}
 use Rattle.std.proofs.lemmas.Str.{encodes-append, encodes-IsAscii, length-le-encodes}
 use Rattle.std.proofs.lemmas.List.{append_assoc, length-append}
-use Rattle.vg_base.specs.Characters.{is_space}
+use Rattle.vg_base.specs.Characters.{is_space, lies_in}
 use Rattle.token_forms.specs.Keys.{Piece, Key, Star, Pound, Space, IsPiece, spelling, key_of, BeginsNoPiece, Divides, AreKeys, IsBadKeyAt}
 use Rattle.token_forms.proofs.KeyLemmas.{divides_once, nothing}
 
+small_below : (c low high : ℕ) → high < 128 → (nat_le low c && nat_le c high) ≡ true → is_small c ≡ true
+small_below c low high small h = lt-ltb c 128 (let within = leb-true c high (and_parts (nat_le low c) (nat_le c high) h).1 in omega arith)
+
 small_space : (c : ℕ) → is_space c ≡ true → is_small c ≡ true
-small_space c h = elim (or_cases (eqb c 9 || eqb c 10 || eqb c 13) (eqb c 32) h) [
-  | inl i ↦ elim (or_cases (eqb c 9 || eqb c 10) (eqb c 13) i) [
-    | inl j ↦ elim (or_cases (eqb c 9) (eqb c 10) j) [ inl k ↦ ap is_small (eqb-true c 9 k) | inr k ↦ ap is_small (eqb-true c 10 k) ]
-    | inr j ↦ ap is_small (eqb-true c 13 j)
+small_space c h = elim (or_cases (nat_le 9 c && nat_le c 10) (lies_in ((13, 13) ∷ (32, 32) ∷ []) c) h) [
+  | inl i ↦ small_below c 9 10 (lit< tt) i
+  | inr i ↦ elim (or_cases (nat_le 13 c && nat_le c 13) (lies_in ((32, 32) ∷ []) c) i) [
+    | inl j ↦ small_below c 13 13 (lit< tt) j
+    | inr j ↦ elim (or_cases (nat_le 32 c && nat_le c 32) (lies_in [] c) j) [ inl k ↦ small_below c 32 32 (lit< tt) k | inr k ↦ cc ]
   ]
-  | inr i ↦ ap is_small (eqb-true c 32 i)
 ]
 
 small_piece : (p : Piece) → IsPiece p → list_all is_small (spelling p) ≡ true
