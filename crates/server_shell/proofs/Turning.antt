@@ -18,12 +18,12 @@ use Rattle.server_shell.specs.Lines.{line_of}
 -- what the reader gave was answered
 pub answers_next : (n : Next) (a b : Option (List ℕ)) (f : Bool) (s t : State) (number : ℕ) (replies : List Reply)
     → finish_of n ≡ None
-    → IfLine n (λ line. GivesLine a b f line × (length line ≤ LINE_LIMIT))
+    → IfLine n (λ line. (length line ≤ LINE_LIMIT) × GivesLine a b f line)
     → (n ≡ next.Long → (line : List ℕ) × (LINE_LIMIT < length line) × GivesLine a b f line)
     → IfLine n (λ line. Answered s number line replies t)
     → (n ≡ next.Long → (line : List ℕ) → LINE_LIMIT < length line → Answered s number line replies t)
     → AnswersNext a b f s t number replies
-answers_next (next.Line v) a b f s t number replies going line long answered answered_long = (v.items, line.0, answered)
+answers_next (next.Line v) a b f s t number replies going line long answered answered_long = (v.items, line.1, answered)
 answers_next next.Long a b f s t number replies going line long answered answered_long =
     let (l, past, gives) = long refl in (l, gives, answered_long refl l past)
 answers_next next.End a b f s t number replies going line long answered answered_long = cc
