@@ -71,44 +71,47 @@ fn run<R: Threads + Wait + Sync>(
 /// A failing read that no run comes to.
 const NEVER: u64 = 1_000_000;
 
+fn appended(alloc: Global, front: &[u8], back: &[u8]) -> Result<Vec<u8>, AllocError> {
+    let mut all = Vec::from_slice(alloc, front)?;
+    all.extend_from_slice(back)?;
+    Ok(all)
+}
+
+/// Whether the dialogue that ends with this fourth line has this reply to it, whether its bytes
+/// come one by one or at once.
+fn is_answered<R: Threads + Wait + Sync>(
+    rt: &R,
+    alloc: Global,
+    line: &[u8],
+    reply: &[u8],
+) -> Result<bool, Memory> {
+    let head = joined(alloc, &[PUT, PUBLISH, RUN])?;
+    let replies = joined(alloc, &[STAGED, PUBLISHED, RAN])?;
+    let input = appended(alloc, &head, line)?;
+    let output = appended(alloc, &replies, reply)?;
+    let one_by_one = run(rt, alloc, 1, &input, 1, NEVER, 1000)?;
+    let at_once = run(rt, alloc, 1, &input, 1000, NEVER, 1000)?;
+    let ended = one_by_one.status == Status::Done && at_once.status == Status::Done;
+    let same = one_by_one.written.as_slice() == at_once.written.as_slice();
+    Ok(ended && same && at_once.written.as_slice() == output.as_slice())
+}
+
 #[test]
 fn answers_dialogues(rt: HostRuntime) -> Result<(), Fail> {
     let alloc = rt.alloc();
-    let head = joined(alloc, &[PUT, PUBLISH, RUN])?;
-    let replies = joined(alloc, &[STAGED, PUBLISHED, RAN])?;
-    // the fourth line, and its reply
-    let cases: [(&[u8], &[u8]); 6] = [
-        (TRY, MATCH),
-        (
-            b"{\"do\":\"try\",\"uri\":\"http://e/a\",\"tokens\":[\"maybe\"]}",
-            b"{\"line\":4,\"reply\":\"nomatch\",\"version\":1}\n",
-        ),
-        (
-            b"{\"do\":\"try\",\"uri\":\"http://e/a\",\"tokens\":[\"yes no\"]}\n",
-            b"{\"line\":4,\"reply\":\"nomatch\",\"version\":1}\n",
-        ),
-        (
-            b"{\"do\":\"try\",\"uri\":\"http://e/b\",\"tokens\":[\"yes\"]}\n",
-            b"{\"line\":4,\"refusal\":\"NoDocument\",\"reply\":\"refused\",\"version\":1}\n",
-        ),
-        (
-            b"{\"do\":\"open\",\"session\":\"s\"}\n",
-            b"{\"line\":4,\"refusal\":\"NotBuilt\",\"reply\":\"refused\"}\n",
-        ),
-        (b" \t\r\n", b""),
-    ];
-    for (line, reply) in cases {
-        let input = joined(alloc, &[&head, line])?;
-        let output = joined(alloc, &[&replies, reply])?;
-        for piece in [1, 1000] {
-            let got = run(&rt, alloc, 1, &input, piece, NEVER, 1000)?;
-            assert_eq!(rt; got.status, Status::Done, "in pieces of {piece}");
-            assert!(rt;
-                got.written.as_slice() == output.as_slice(),
-                "in pieces of {piece}"
-            );
-        }
-    }
+    assert!(rt; is_answered(&rt, alloc, TRY, MATCH)?);
+    let maybe = b"{\"do\":\"try\",\"uri\":\"http://e/a\",\"tokens\":[\"maybe\"]}";
+    let none = b"{\"line\":4,\"reply\":\"nomatch\",\"version\":1}\n";
+    assert!(rt; is_answered(&rt, alloc, maybe, none)?);
+    let two = b"{\"do\":\"try\",\"uri\":\"http://e/a\",\"tokens\":[\"yes no\"]}\n";
+    assert!(rt; is_answered(&rt, alloc, two, none)?);
+    let other = b"{\"do\":\"try\",\"uri\":\"http://e/b\",\"tokens\":[\"yes\"]}\n";
+    let unknown = b"{\"line\":4,\"refusal\":\"NoDocument\",\"reply\":\"refused\",\"version\":1}\n";
+    assert!(rt; is_answered(&rt, alloc, other, unknown)?);
+    let open = b"{\"do\":\"open\",\"session\":\"s\"}\n";
+    let later = b"{\"line\":4,\"refusal\":\"NotBuilt\",\"reply\":\"refused\"}\n";
+    assert!(rt; is_answered(&rt, alloc, open, later)?);
+    assert!(rt; is_answered(&rt, alloc, b" \t\r\n", b"")?);
     Ok(())
 }
 
@@ -136,7 +139,7 @@ fn tells_faults_of_source_and_sink(rt: HostRuntime) -> Result<(), Fail> {
     let head = joined(alloc, &[PUT, PUBLISH, RUN])?;
     let input = joined(alloc, &[&head, TRY])?;
     let replies = joined(alloc, &[STAGED, PUBLISHED, RAN])?;
-    let source = run(&rt, alloc, 1, &input, head.len() as u32, 1, 1000)?;
+    let source = run(&rt, alloc, 1, &input, 1, head.len() as u64, 1000)?;
     assert_eq!(rt; source.status, Status::ReadFault);
     assert!(rt; source.written.as_slice() == replies.as_slice());
     let sink = run(&rt, alloc, 1, &input, 1000, NEVER, 10)?;
