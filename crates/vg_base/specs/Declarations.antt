@@ -1,4 +1,4 @@
--- What declarations of a grammar say: its mode (SRGS 1.0 section 4.6) and its tag format (SISR 1.0 section 7).
+-- What declarations of a grammar say: its mode (SRGS 1.0 section 4.6) and its tag format (section 4.8; the names are those of SISR 1.0).
 use Rattle.std.specs.Prelude.{ℕ, List, codes}
 use Rattle.vg_base.specs.declared.mode.Mode.{Mode}
 use Rattle.vg_base.specs.declared.mode.Mode.TheVariants.{Voice, Dtmf}

@@ -1,7 +1,7 @@
 ghost use Rattle.std.specs.Prelude.{◌≡◌};
 ghost use Rattle.vg_base.specs.Declarations.{format_name};
 
-/// How a grammar's tags are read: as scripts, or as the text of the value (SISR 1.0, section 7).
+/// How a grammar's tags are read: as scripts, or as the text of the value (SISR 1.0, tag formats; SRGS 1.0, section 4.8).
 #[derive(Clone, Copy, Debug, PartialEq, Eq)]
 pub enum Format {
     Script,
