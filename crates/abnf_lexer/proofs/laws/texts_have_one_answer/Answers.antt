@@ -1,0 +1,6 @@
+use Rattle.abnf_lexer.proofs.OneCutting.{one_list, one_fault, no_both}
+use Rattle.abnf_lexer.proofs.SomeAnswer.{some_answer}
+use Rattle.abnf_lexer.proofs.laws.texts_have_one_answer.Goals as goal
+
+pub returns : goal.returns
+returns c = record { some = some_answer; lexemes = one_list; faults = one_fault; apart = no_both }

@@ -1,0 +1,10 @@
+pub mod Classes
+pub mod Codes
+pub mod Forms
+pub mod Cutting
+pub mod Faults
+pub mod Header
+pub mod Lexing
+pub mod Repeats
+pub mod Front
+pub mod Tally

@@ -1,0 +1,48 @@
+//! Laws of the definitions, each the contract of a function that does nothing.
+ghost use Rattle.std.specs.Prelude.{◌≡◌, ◌⊎◌, ℕ, List, [], Option, All};
+ghost use Rattle.std.specs.declared.cmp.Ordering.TheVariants.{Equal};
+ghost use Rattle.vg_base.specs.declared.doc_fault.DocFault.{DocFault};
+ghost use Rattle.vg_base.specs.Faults.{doc_fault_order};
+ghost use Rattle.vg_base.specs.Places.{Walked};
+ghost use Rattle.abnf_lexer.specs.declared.lexemes.Spanned.{Spanned};
+ghost use Rattle.abnf_lexer.specs.Cutting.{Piece, IsCut, IsPartOf};
+ghost use Rattle.abnf_lexer.specs.Header.{header_faults, behind_header, HasHeader};
+ghost use Rattle.abnf_lexer.specs.Repeats.{Most, IsRepeat};
+ghost use Rattle.abnf_lexer.specs.Lexing.{AreLexemes, IsFirstFault};
+
+/// The pieces of a text are slices of it, and have the forms of their kinds.
+pub fn pieces_are_slices()
+    ensures { (text : List ℕ) (pieces : List Piece) (end : Walked) → IsCut (behind_header text) pieces end
+        → All (IsPartOf text) pieces }
+{}
+
+/// From any place a text is cut in one way.
+pub fn texts_are_cut_in_one_way()
+    ensures { (from these those : Walked) (pieces others : List Piece) → IsCut from pieces these → IsCut from others those
+        → (pieces ≡ others) × (these ≡ those) }
+{}
+
+/// A text has one list of lexemes, or one first fault, and not both.
+pub fn texts_have_one_answer()
+    ensures some { (text : List ℕ) → ((these : List Spanned) × AreLexemes text these) ⊎ ((f : DocFault) × IsFirstFault text f) }
+    ensures lexemes { (text : List ℕ) (these those : List Spanned) → AreLexemes text these → AreLexemes text those
+        → these ≡ those }
+    ensures faults { (text : List ℕ) (f g : DocFault) → IsFirstFault text f → IsFirstFault text g
+        → doc_fault_order f g ≡ Equal }
+    ensures apart { (text : List ℕ) (these : List Spanned) (f : DocFault) → AreLexemes text these
+        → IsFirstFault text f → ⊥ }
+{}
+
+/// A header has no fault exactly where it has the form of a header; what follows it is cut.
+pub fn headers_have_their_form()
+    ensures form { (text : List ℕ) → header_faults text ≡ [] → HasHeader text (behind_header text).rest }
+    ensures faultless { (text rest : List ℕ) → HasHeader text rest → header_faults text ≡ [] }
+    ensures rest { (text rest : List ℕ) → HasHeader text rest → rest ≡ (behind_header text).rest }
+{}
+
+/// A slice that is a repeat has its numbers and its probability in one way.
+pub fn repeats_are_read_in_one_way()
+    ensures { (slice these those : List ℕ) (most others : Most) (chance other : Option (List ℕ))
+        → IsRepeat slice these most chance → IsRepeat slice those others other
+        → (these ≡ those) × (most ≡ others) × (chance ≡ other) }
+{}

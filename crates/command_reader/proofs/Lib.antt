@@ -1,0 +1,5 @@
+pub mod Kept
+pub mod Named
+pub mod Printing
+pub mod Reading
+pub mod Written

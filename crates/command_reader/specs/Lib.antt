@@ -1,0 +1,5 @@
+pub mod Members
+pub mod Table
+pub mod Answer
+pub mod Facts
+pub mod Lines

@@ -1,0 +1,9 @@
+pub mod Texts
+pub mod Levels
+pub mod Deep
+pub mod Kept
+pub mod Numbers
+pub mod Members
+pub mod SameJson
+pub mod Whole
+pub mod Shown

@@ -1,0 +1,9 @@
+pub mod Kinds
+pub mod Outcomes
+pub mod Operators
+pub mod Parts
+pub mod Changes
+pub mod Evaluation
+pub mod Execution
+pub mod Seen
+pub mod Laws

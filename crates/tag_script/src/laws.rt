@@ -1,0 +1,13 @@
+//! Laws of the definitions, each the contract of a function that does nothing.
+ghost use Rattle.tag_script.specs.Laws.{LookingChangesNothing, RunsKeepLimits, RunsKeepReferences};
+
+/// A script without assignments and without `var` leaves the environment as it was.
+pub fn looking_changes_nothing()
+    ensures { LookingChangesNothing }
+{}
+
+/// A script changes variables and `out` alone, and keeps them within the limits of values.
+pub fn runs_keep()
+    ensures limits { RunsKeepLimits }
+    ensures references { RunsKeepReferences }
+{}
