@@ -12,3 +12,4 @@ pub mod Pieces
 pub mod Runs
 pub mod SomeAnswer
 pub mod Within
+mod SameFault

@@ -1,4 +1,4 @@
--- Classes of characters that tell lexemes apart (SRGS 1.0, grammars in ABNF form).
+-- Classes of characters that tell lexemes apart (this project's profile of SRGS 1.0, grammars in ABNF form).
 use Rattle.std.specs.Prelude.{ℕ, Bool, true, false, not, ◌||◌, ◌==◌, List, [], ◌∷◌, codes}
 use Rattle.std.specs.List.{list_any}
 use Rattle.vg_base.specs.Characters.{Ranges, lies_in, is_space}

@@ -1,4 +1,4 @@
--- The faults of a cutting: the list of all that there are.
+-- The faults of a cutting: the list of all that there are up to where it stops.
 use Rattle.std.specs.Prelude.{ℕ, ◌+◌, ◌-◌, Bool, true, false, not, ◌&&◌, ◌==◌, nat_eq, nat_le, if◌then◌else◌, List, [], ◌∷◌, ◌++◌, length, fold, codes}
 use Rattle.std.specs.List.{list_any, starts_with}
 use Rattle.vg_base.specs.declared.doc_fault.DocKind.{DocKind}

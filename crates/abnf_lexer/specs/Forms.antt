@@ -1,5 +1,5 @@
--- The forms of lexemes and of what stands between them (SRGS 1.0, grammars in ABNF form). A form is that of a slice of
--- the text, before this rest of it: a run is as long as it can be.
+-- The forms of lexemes and of what stands between them (this project's profile of SRGS 1.0, grammars in ABNF form).
+-- A form is that of a slice of the text, before this rest of it: a run is as long as it can be.
 use Rattle.std.specs.Prelude.{◌≡◌, ◌≢◌, ℕ, Bool, true, false, nat_eq, List, [], ◌∷◌, ◌++◌, ◌⊎◌, codes}
 use Rattle.std.specs.List.{list_all, starts_with}
 use Rattle.vg_base.specs.Characters.{is_space, is_name_start, is_name}

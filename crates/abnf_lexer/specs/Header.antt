@@ -1,4 +1,4 @@
--- The header of a grammar in ABNF form (SRGS 1.0 section 4.1): `#ABNF`, blanks, the version, then blanks and the name
+-- The header of a grammar in ABNF form (this project's profile of SRGS 1.0 section 4.1): `#ABNF`, blanks, the version, then blanks and the name
 -- of an encoding or nothing, blanks or nothing, and `;`.
 use Rattle.std.specs.Prelude.{◌≡◌, ◌≢◌, ◌⊎◌, ℕ, Bool, true, false, ◌&&◌, ◌||◌, ◌==◌, not, nat_eq, if◌then◌else◌, List, [], ◌∷◌, ◌++◌, take, drop, codes}
 use Rattle.std.specs.List.{prefix_len, take_while, starts_with, list_all}
@@ -80,7 +80,7 @@ header_faults text =
     then version_faults (at_version text) ++ (encoding_faults (at_encoding text) ++ end_faults (at_end text))
     else told true [] NoHeader
 
--- ---- the header as a whole, in the words of the standard
+-- ---- the header as a whole
 
 abbrev pub IsMarkOrNone : List ℕ → Type 0
 IsMarkOrNone mark = (mark ≡ []) ⊎ (mark ≡ 0xFEFF ∷ [])

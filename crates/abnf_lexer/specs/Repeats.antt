@@ -21,7 +21,7 @@ pub record IsNumber (text : List ℕ) : Type 0 where
   pub each : list_all is_digit text ≡ true
   pub some : text ≢ []
 
--- nothing, `-`, or `-` and a number, with the white space behind each part
+-- `-` and a number, with the white space behind each part
 pub record IsUpTo (number text : List ℕ) : Type 0 where
   pub before : List ℕ
   pub after : List ℕ
@@ -35,18 +35,20 @@ pub record IsEndless (text : List ℕ) : Type 0 where
   pub whole : text ≡ 45 ∷ after
   pub blank_after : IsBlank after
 
+-- nothing, `-`, or `-` and a number
 abbrev pub IsRange : Most → List ℕ → Type 0
 IsRange Same text = text ≡ []
 IsRange Endless text = IsEndless text
 IsRange (UpTo number) text = IsUpTo number text
 
--- nothing, or characters between slashes, with the white space behind them
+-- characters between slashes, with the white space behind them
 pub record IsBetweenSlashes (inside text : List ℕ) : Type 0 where
   pub after : List ℕ
   pub whole : text ≡ 47 ∷ (inside ++ 47 ∷ after)
   pub first : ReachesFirst (codes "/") inside
   pub blank_after : IsBlank after
 
+-- nothing, or characters between slashes
 abbrev pub IsChance : Option (List ℕ) → List ℕ → Type 0
 IsChance None text = text ≡ []
 IsChance (Some inside) text = IsBetweenSlashes inside text

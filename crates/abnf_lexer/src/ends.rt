@@ -1,6 +1,5 @@
-//! How far runs and enclosed characters go.
+//! How far enclosed characters go.
 ghost use Rattle.std.specs.Prelude.{◌≡◌, ◌≤◌, length, IfSome};
-ghost use Rattle.std.specs.List.{prefix_len};
 ghost use Rattle.abnf_lexer.specs.Front as spec;
 
 /// How many characters there are to the end of the next closing.

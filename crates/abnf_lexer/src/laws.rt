@@ -1,8 +1,6 @@
 //! Laws of the definitions, each the contract of a function that does nothing.
 ghost use Rattle.std.specs.Prelude.{◌≡◌, ◌⊎◌, ℕ, List, [], Option, All};
-ghost use Rattle.std.specs.declared.cmp.Ordering.TheVariants.{Equal};
 ghost use Rattle.vg_base.specs.declared.doc_fault.DocFault.{DocFault};
-ghost use Rattle.vg_base.specs.Faults.{doc_fault_order};
 ghost use Rattle.vg_base.specs.Places.{Walked};
 ghost use Rattle.abnf_lexer.specs.declared.lexemes.Spanned.{Spanned};
 ghost use Rattle.abnf_lexer.specs.Cutting.{Piece, IsCut, IsPartOf};
@@ -27,8 +25,7 @@ pub fn texts_have_one_answer()
     ensures some { (text : List ℕ) → ((these : List Spanned) × AreLexemes text these) ⊎ ((f : DocFault) × IsFirstFault text f) }
     ensures lexemes { (text : List ℕ) (these those : List Spanned) → AreLexemes text these → AreLexemes text those
         → these ≡ those }
-    ensures faults { (text : List ℕ) (f g : DocFault) → IsFirstFault text f → IsFirstFault text g
-        → doc_fault_order f g ≡ Equal }
+    ensures faults { (text : List ℕ) (f g : DocFault) → IsFirstFault text f → IsFirstFault text g → f ≡ g }
     ensures apart { (text : List ℕ) (these : List Spanned) (f : DocFault) → AreLexemes text these
         → IsFirstFault text f → ⊥ }
 {}

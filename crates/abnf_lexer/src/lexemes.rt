@@ -3,7 +3,7 @@ use vg_base::Place;
 /// The kinds of lexemes.
 #[derive(Clone, Copy, Debug, PartialEq, Eq)]
 pub enum LexKind {
-    /// A run of characters without white space and signs.
+    /// A longest run of characters that aren't white space and begin no other lexeme.
     Bare,
     /// Characters in quotes.
     Quoted,
@@ -13,7 +13,7 @@ pub enum LexKind {
     UriRef,
     /// `<`, characters and `>`, and a media type or none.
     Angle,
-    /// A number between slashes.
+    /// Characters between slashes, which a document's reader takes as a number.
     Weight,
     /// `!` and the code of a language.
     Language,

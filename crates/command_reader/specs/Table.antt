@@ -1,5 +1,5 @@
--- The table of commands. A command is a JSON object with exactly the members of its kind; of members with one
--- name the last counts.
+-- The table of commands. A command is a JSON object with exactly the members of its kind, beside which `area` may stand
+-- in each but a run; of members with one name the last counts.
 use Rattle.std.specs.Prelude.{ℕ, List, [], ◌∷◌, if◌then◌else◌, Option, Some, None, option_map, option_and_then, codes}
 use Rattle.std.specs.Str.{bytes_eq}
 use Rattle.serde_json.specs.Data.{Data}
