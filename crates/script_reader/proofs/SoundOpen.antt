@@ -18,8 +18,8 @@ use Rattle.script_reader.specs.declared.stack.Open.{Open}
 use Rattle.script_reader.specs.declared.stack.Turn.{Turn}
 use Rattle.script_reader.specs.declared.stack.Turn.TheVariants as t
 use Rattle.script_reader.specs.Signs.{operator_of, level}
-use Rattle.script_reader.specs.Expressions.{opened, value_of, left, key_of}
-use Rattle.script_reader.specs.Grammar.{prefix_sign, Expression, Operand, Values, Members, expression_spelled, operand_spelled, values_spelled, members_spelled, expression_meant, operand_meant, values_meant, members_meant, tightness, FitsExpression, FitsOperand, FitsValues, FitsMembers, target_of}
+use Rattle.script_reader.specs.Expressions.{opened, value_of, left}
+use Rattle.script_reader.specs.Grammar.{prefix_sign, Expression, Operand, Values, Members, expression_spelled, operand_spelled, values_spelled, members_spelled, expression_meant, operand_meant, values_meant, members_meant, tightness, FitsExpression, FitsOperand, FitsValues, FitsMembers, target_of, key_of}
 use Rattle.script_reader.proofs.Folding.{Takes}
 
 -- ---- what stands for an operand

@@ -21,8 +21,8 @@ use Rattle.script_reader.specs.declared.stack.Frame.TheVariants as f
 use Rattle.script_reader.specs.declared.stack.Open.{Open}
 use Rattle.script_reader.specs.declared.stack.Inside.{Inside}
 use Rattle.script_reader.specs.Roles.{role_of, is_name}
-use Rattle.script_reader.specs.Expressions.{opened, deeper, extended, rule_view, text_of, start_word, list_opened, record_opened, start_sign, on_start, on_list, key_of, record_closed, on_members, on_keyed, on_dot, past_dot, past_close, on_rule, on_meta, call_of, source_called, on_source, source_text, on_text, turn_at, turn}
-use Rattle.script_reader.specs.Grammar.{prefix_sign, Operand, Members, number, string, truth, null, out, name, empty_list, empty_record, rule, latest_rule, rule_text, latest_text, current_text, dotted, no_value, no_member, member, operand_spelled, values_spelled, members_spelled, operand_meant, values_meant, members_meant, FitsOperand, FitsValues, FitsMembers}
+use Rattle.script_reader.specs.Expressions.{opened, deeper, extended, rule_view, text_of, start_word, list_opened, record_opened, start_sign, on_start, on_list, record_closed, on_members, on_keyed, on_dot, past_dot, past_close, on_rule, on_meta, call_of, source_called, on_source, source_text, on_text, turn_at, turn}
+use Rattle.script_reader.specs.Grammar.{prefix_sign, Operand, Members, number, string, truth, null, out, name, empty_list, empty_record, rule, latest_rule, rule_text, latest_text, current_text, dotted, no_value, no_member, member, operand_spelled, values_spelled, members_spelled, operand_meant, values_meant, members_meant, FitsOperand, FitsValues, FitsMembers, key_of}
 use Rattle.script_reader.proofs.RoleViews.{Spelt, spelt}
 use Rattle.script_reader.proofs.Complete.{rule_value}
 use Rattle.script_reader.proofs.SoundOpen.{Shows, OpenReads, source_spelled, SourceFits, Called, Inner, TurnReads, longer, start_of, viewed, valued, at_now, framed}

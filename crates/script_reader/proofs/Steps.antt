@@ -26,8 +26,8 @@ use Rattle.script_reader.specs.declared.stack.Turn.{Turn}
 use Rattle.script_reader.specs.declared.stack.Turn.TheVariants as t
 use Rattle.script_reader.specs.Signs.{operator_of, level}
 use Rattle.script_reader.specs.Roles.{role_of, is_name, IsName}
-use Rattle.script_reader.specs.Expressions.{opened, value_of, extended, rule_view, text_of, folded, start_word, start_sign, on_start, close_frame, closed, closed_whole, left, choose, operated, chosen, ending, view_sign, on_view, on_list, on_members, key_of, on_keyed, on_dot, past_dot, past_close, on_rule, on_meta, on_source, on_text, turn}
-use Rattle.script_reader.specs.Grammar.{prefix_sign, truth_word}
+use Rattle.script_reader.specs.Expressions.{opened, value_of, extended, rule_view, text_of, folded, start_word, start_sign, on_start, close_frame, closed, closed_whole, left, choose, operated, chosen, ending, view_sign, on_view, on_list, on_members, on_keyed, on_dot, past_dot, past_close, on_rule, on_meta, on_source, on_text, turn}
+use Rattle.script_reader.specs.Grammar.{prefix_sign, truth_word, key_of}
 use Rattle.script_reader.proofs.Turns.{In}
 use Rattle.script_reader.proofs.Folding.{whole}
 

@@ -27,6 +27,7 @@ use Rattle.script_reader.specs.declared.stack.Whole.{Whole}
 use Rattle.script_reader.specs.declared.stack.Turn.{Turn}
 use Rattle.script_reader.specs.declared.stack.Turn.TheVariants as t
 use Rattle.script_reader.specs.Signs.{operator_of, prefix_of, level}
+use Rattle.script_reader.specs.Grammar.{key_of}
 use Rattle.script_reader.specs.Roles.{role_of, is_name}
 
 -- ---- operands
@@ -229,14 +230,6 @@ on_view frames room view _ = t.Unfit
 unfoldable pub on_list : List Open → ℕ → ℕ → Lexeme → Turn
 on_list frames room outside (l.Sign g.SquareClose) = on_value frames outside (e.List [])
 on_list frames room outside lexeme = on_start (opened (f.List []) outside ∷ frames) room false lexeme
-
--- what a lexeme is as a record's key
-abbrev pub key_of : Lexeme → Option (List ℕ)
-key_of (l.Word w) = Some w
-key_of (l.Str text) = Some text
-key_of (l.Number value digits) = Some digits
-key_of (l.Sign sign) = None
-key_of l.Bad = None
 
 abbrev pub keyed : List Open → ℕ → ℕ → List (List ℕ × Expr) → List ℕ → Turn
 keyed frames room outside done key = on frames room (n.Keyed done key outside)

@@ -1,5 +1,5 @@
--- The grammar of scripts (the profile of ECMA-262 that SISR 1.0 names): its syntax trees, how each is spelled in
--- lexemes, what it means, and where it may stand.
+-- The grammar of scripts (this project's profile of ECMA-262; the forms of `rules` and `meta` are those of SISR 1.0): its
+-- syntax trees, how each is spelled in lexemes, what it means, and where it may stand.
 use Rattle.std.specs.Prelude.{◌≡◌, ◌≢◌, ℕ, suc, ℤ, ◌<◌, ◌≤◌, Bool, true, false, List, [], ◌∷◌, ◌++◌, Option, Some, None, codes}
 use Rattle.vg_base.specs.declared.script.Expr.{Expr}
 use Rattle.vg_base.specs.declared.script.Expr.TheVariants as e
@@ -21,9 +21,16 @@ use Rattle.script_reader.specs.declared.lexeme.Lexeme.{Lexeme}
 use Rattle.script_reader.specs.declared.lexeme.Lexeme.TheVariants as l
 use Rattle.script_reader.specs.Signs.{operator_of, level}
 use Rattle.script_reader.specs.Roles.{IsName}
-use Rattle.script_reader.specs.Expressions.{key_of}
 
 -- ---- expressions
+
+-- what a lexeme is as a record's key
+abbrev pub key_of : Lexeme → Option (List ℕ)
+key_of (l.Word w) = Some w
+key_of (l.Str text) = Some text
+key_of (l.Number value digits) = Some digits
+key_of (l.Sign sign) = None
+key_of l.Bad = None
 
 mutual
   pub data Expression : Type 0 where

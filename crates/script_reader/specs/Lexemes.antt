@@ -1,4 +1,4 @@
--- The lexemes of a script: their forms, and how a text is cut into them (ECMA-262, lexical grammar).
+-- The lexemes of a script: their forms, and how a text is cut into them (this project's profile of ECMA-262's lexical grammar).
 use Rattle.std.specs.Prelude.{◌≡◌, ◌≢◌, ℕ, pos, ◌+◌, ◌*◌, ◌-◌, ◌≤◌, ◌⊎◌, Bool, true, false, not, nat_le, ◌==◌, ◌&&◌, ◌||◌, List, [], ◌∷◌, ◌++◌, length, Some, if◌then◌else◌, fold}
 use Rattle.std.specs.List.{list_all}
 use Rattle.vg_base.specs.Characters.{is_space, is_name, is_name_start}

@@ -2,10 +2,10 @@ pub mod Signs
 pub mod Roles
 pub mod Strings
 pub mod Lexemes
+pub mod Grammar
 pub mod Front
 pub mod Expressions
 pub mod Statements
-pub mod Grammar
 pub mod Advances
 pub mod Reading
 pub mod Laws

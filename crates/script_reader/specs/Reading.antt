@@ -13,7 +13,8 @@ pub record IsScript (text : Text) (script : Script) : Type 0 where
   pub cut : Cuts text pieces []
   pub spells : SpellsScript (lexemes pieces) script
 
--- some further lexemes make it a script
+-- Some further lexemes make it a script. They needn't be cut from any text: wherever one that no text spells may stand, one
+-- that a text spells may stand too.
 abbrev pub Begins : List Lexeme → Type 0
 Begins found = (more : List Lexeme) × (script : Script) × SpellsScript (found ++ more) script
 

@@ -48,7 +48,7 @@ pub enum Lexeme {
     /// A string, its escapes decoded.
     Str(Text),
     Sign(Sign),
-    /// What no lexeme begins, or a number that is too large.
+    /// A number that is too large, which fits no script.
     Bad,
 }
 

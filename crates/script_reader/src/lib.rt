@@ -1,4 +1,4 @@
-//! Reads a tag's script, in the profile of ECMAScript that tags are written in (SISR 1.0).
+//! Reads a tag's script, which is written in this project's profile of ECMAScript, the language of tags (SISR 1.0).
 #![tactic(auto)]
 
 mod cutting;

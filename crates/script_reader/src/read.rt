@@ -24,7 +24,7 @@ enum Advance {
     Unfit,
 }
 
-/// Reads the script of a tag.
+/// Reads the script of a tag. `Memory` comes where memory is wanted and isn't there; no contract says when that is.
 pub fn read_script(alloc: Global, text: &Text) -> Result<Script, ScriptRefused>
     // What is read is spelled so, and no other script is; a refusal has the place of the first lexeme that fits no script.
     ensures { Reads text.now result }

@@ -145,7 +145,7 @@ pub enum Frame {
     },
 }
 
-/// What waits for an expression, and how many more levels of nesting it may have around it.
+/// What waits for an expression, and how many more levels of nesting were left where it stands.
 #[derive(Drop)]
 pub struct Open {
     pub frame: Frame,
@@ -220,7 +220,7 @@ pub enum Part {
     IfElse { test: Expr, yes: Stmt },
 }
 
-/// What waits for a statement, and how many more levels of nesting it may have around it.
+/// What waits for a statement, and how many more levels of nesting were left where it stands.
 #[derive(Drop)]
 pub struct Outer {
     pub part: Part,
