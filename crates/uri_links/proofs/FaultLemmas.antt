@@ -1,7 +1,8 @@
 -- Where a text has no fault.
-use Rattle.std.proofs.Common.{◌≡◌, ℕ, ◌≤◌, Bool, true, false, cond, ltb, List, length, Option, None, Some, is_some, refl, ap, sym, ◌∙◌, subst}
+use Rattle.std.proofs.Common.{◌≡◌, ℕ, ◌≤◌, Bool, true, false, cond, ltb, List, length, Option, None, Some, is_some, refl, ap, sym, ◌∙◌, subst, arith}
 use Rattle.std.specs.Str.{encode_utf8_all}
 use Rattle.std.proofs.lemmas.Bool.{cond-true, cond-false, le-ltb}
+use Rattle.std.proofs.lemmas.Bool.Decides.{nat_tests}
 use Rattle.vg_base.specs.Characters.{byte_len}
 use Rattle.uri_links.specs.declared.fault.UriFault.{UriFault}
 use Rattle.uri_links.specs.declared.fault.UriFault.TheVariants.{NotUri, UriLong, NotAbsolute}
@@ -16,6 +17,15 @@ none_only false false e = cc
 
 pub reading_none : (text : List ℕ) → reading_fault text ≡ None → is_reference text ≡ true
 reading_none text e = none_only (ltb 2048 (byte_len text)) (is_reference text) e
+
+short_only : (long good : Bool) → cond long (Some UriLong) (cond good None (Some NotUri)) ≡ None → long ≡ false
+short_only true good e = cc
+short_only false good e = refl
+
+pub reading_short : (text : List ℕ) → reading_fault text ≡ None → byte_len text ≤ 2048
+reading_short text e =
+    let short : ltb 2048 (byte_len text) ≡ false = short_only (ltb 2048 (byte_len text)) (is_reference text) e in
+    grind (arith, nat_tests)
 
 pub key_from_none : (text : List ℕ) → reading_fault text ≡ None → key_fault text ≡ cond (is_absolute text) None (Some NotAbsolute)
 key_from_none text e = cond-false (is_some (reading_fault text)) (reading_fault text) (cond (is_absolute text) None (Some NotAbsolute)) (ap is_some e)

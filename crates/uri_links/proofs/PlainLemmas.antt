@@ -93,7 +93,7 @@ pushed c path o p out = record {
   joins = inr (after_rooted (c ∷ path));
 }
 
-kinds : (segment : List ℕ) → ((segment ≡ codes ".") ⊎ (segment ≡ codes "..")) ⊎ ((segment ≡ codes "/.") ⊎ ((segment ≡ codes "/..") ⊎ IsPlain segment))
+pub kinds : (segment : List ℕ) → ((segment ≡ codes ".") ⊎ (segment ≡ codes "..")) ⊎ ((segment ≡ codes "/.") ⊎ ((segment ≡ codes "/..") ⊎ IsPlain segment))
 kinds segment = elim (decide segment (codes ".")) [
   | inl e ↦ inl (inl e)
   | inr one ↦ elim (decide segment (codes "..")) [

@@ -18,7 +18,7 @@ is_scheme (c ∷ text) = is_ascii_alphabetic c && list_all is_scheme_character t
 abbrev pub is_allowed : List ℕ → ℕ → Bool
 is_allowed also c = is_ascii_alphanumeric c || has c (codes "-._~!$&'()*+,;=:@") || has c also
 
--- two hexadecimal digits stand at the front
+-- two hexadecimal digits stand at the front: past the end `slice_index` is 0, which is no hexadecimal digit
 abbrev pub begins_hexadecimal : List ℕ → Bool
 begins_hexadecimal text = is_ascii_hexdigit (slice_index text 0) && is_ascii_hexdigit (slice_index text 1)
 

@@ -98,6 +98,7 @@ fn paths_merge_with_other_bases(rt: HostRuntime) -> Result<(), Fail> {
     let rows = [
         ("http://a?q", "b/./c", "http://a/b/c"),
         ("x:a", "b", "x:b"),
+        ("x:", "g", "x:g"),
         ("x:a/b", "../../c", "x:/c"),
         ("x://h/a?q#f", "", "x://h/a?q"),
     ];

@@ -1,5 +1,5 @@
 //! References: a text, as it stands or as a key.
-ghost use Rattle.std.specs.Prelude.{◌≡◌, ◌↔◌, true, false, is_some, IfOk, IsSome, Some};
+ghost use Rattle.std.specs.Prelude.{◌≡◌, ◌↔◌, true, false, is_some, IfOk, IsSome, None, Some};
 ghost use Rattle.std.specs.Result.{IsErrOf};
 ghost use Rattle.uri_links.specs.declared.fault.UriFault.{UriFault};
 ghost use Rattle.uri_links.specs.declared.fault.UriRefused.TheVariants as refused;
@@ -57,6 +57,7 @@ impl Uri {
         ensures refused { (fault : UriFault) → (IsErrOf result (refused.Fault fault) ↔ (key_fault text.now ≡ Some fault)) }
         ensures key { IfOk result (λ uri. uri ≡ key text.now) }
         ensures absolute { IfOk result (λ uri. is_absolute uri ≡ true) }
+        ensures readable { IfOk result (λ uri. reading_fault uri ≡ None) }
     {
         if let Some(fault) = key_fault(text) {
             return Err(UriRefused::Fault(fault));
