@@ -101,7 +101,7 @@ fn sameness(left: &Value, right: &Value) -> Result<bool, RunRefused>
     }
 }
 
-/// An operator between two values.
+/// An operator between two values. No script comes here with `||` or `&&`, which evaluate only what they need.
 pub(crate) fn binary(
     alloc: Global,
     operator: BinOp,

@@ -11,7 +11,7 @@ pub enum TagKind {
     Unknown = 1,
     /// An operator, a part or an assignment doesn't fit the kind of a value.
     Kind,
-    /// A number past 2^53 - 1 either way, or an index past a list's end.
+    /// A number past 2^53 - 1 either way, or an item set at a number that is neither one of the list's nor its length.
     Range,
     /// A quotient that isn't whole, or a division by zero.
     Fraction,

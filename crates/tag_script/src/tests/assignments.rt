@@ -1,6 +1,6 @@
 use super::trees::{
-    assign, binary, body, index_step, into, name, null, number, out_target, pair, record, set_out,
-    single, text, then, truth, variable, word_step,
+    assign, binary, body, dot, index_step, into, name, null, number, out, out_target, pair, record,
+    set_out, single, text, then, truth, variable, word_step,
 };
 use super::{Ground, leads};
 use vg_base::{AssignOp, BinOp, Expr, Key, Stmt};
@@ -35,6 +35,7 @@ fn items_are_set_and_appended(host: HostRuntime) {
     let rt = &host;
     assert!(rt; sets(rt, two(rt), index_step(number(0)), "[9,2]"));
     assert!(rt; sets(rt, two(rt), index_step(number(2)), "[1,2,9]"));
+    assert!(rt; sets(rt, two(rt), index_step(dot(rt, out(), "length")), "[1,2,9]"));
     assert!(rt; sets(rt, two(rt), index_step(number(3)), "Range"));
     assert!(rt; sets(rt, two(rt), index_step(number(-1)), "Range"));
     assert!(rt; sets(rt, two(rt), index_step(text(rt, "0")), "Kind"));

@@ -1,8 +1,8 @@
-use super::trees::{body, characters, set_out};
+use super::trees::{binary, body, characters, member, number, set_out, text};
 use super::{Ground, gives, leads_from};
 use crate::Env;
 use script_value::Value;
-use vg_base::{Expr, TextMap};
+use vg_base::{BinOp, Expr, TextMap};
 
 /// An environment behind a reference to the rule `w`.
 fn visited(rt: &impl Ground) -> Env {
@@ -57,4 +57,14 @@ fn what_was_not_visited_is_null(host: HostRuntime) {
     assert!(rt; gives(rt, rule_text(rt, "w"), "null"));
     assert!(rt; gives(rt, Expr::LatestText, "null"));
     assert!(rt; gives(rt, Expr::CurrentText, "\"\""));
+}
+
+#[test]
+fn references_are_operands(host: HostRuntime) {
+    let rt = &host;
+    let dash = binary(rt, BinOp::Add, rule(rt, "w"), text(rt, "-"));
+    let joined = binary(rt, BinOp::Add, dash, Expr::LatestText);
+    assert!(rt; shows(rt, joined, "\"5-or so\""));
+    let product = binary(rt, BinOp::Mul, rule(rt, "w"), number(9));
+    assert!(rt; shows(rt, member(rt, "total", product), "{\"total\":45}"));
 }
