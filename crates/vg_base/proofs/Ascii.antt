@@ -1,8 +1,10 @@
 -- Characters below 128, and the texts that are made of them.
-use Rattle.std.proofs.Common.{◌≡◌, ℕ, zero, suc, ◌<◌, Bool, true, eqb, ltb, List, [], ◌∷◌, ◌++◌, length, get_or, refl, ap, sym, ◌∙◌, inl, inr, arith}
+use Rattle.std.proofs.Common.{◌≡◌, ℕ, Bool, true, eqb, ltb, List, [], ◌∷◌, ◌++◌, get_or, refl, ap, sym, ◌∙◌, inl, inr}
 use Rattle.std.specs.List.{list_any, list_all}
 use Rattle.std.specs.Str.{encode_utf8_all, IsAscii}
 use Rattle.std.proofs.lemmas.Str.{encode_ascii, cons_from_encodes}
+use Rattle.std.proofs.lemmas.Str.Ascii.{IsAscii-from_all}
+use Rattle.std.proofs.lemmas.List.Sums.{AllPass-from_list_all}
 use Rattle.std.proofs.lemmas.Bool.{false≢true, or_cases, and_parts, eqb-true, ltb-true}
 
 -- a character of a list passes a test that all of the list pass
@@ -17,9 +19,7 @@ abbrev pub is_small : ℕ → Bool
 is_small c = ltb c 128
 
 pub small_ascii : (text : List ℕ) → list_all is_small text ≡ true → IsAscii text
-small_ascii [] h i = omega arith
-small_ascii (c ∷ text) h zero = ltb-true c 128 (and_parts (is_small c) (list_all is_small text) h).0
-small_ascii (c ∷ text) h (suc i) = small_ascii text (and_parts (is_small c) (list_all is_small text) h).1 i
+small_ascii text h = IsAscii-from_all text (λ k d within. ltb-true (get_or text k d) 128 (AllPass-from_list_all is_small text h k d within))
 
 -- where the bytes of a text begin with these, its characters do
 pub past_small : (front text more : List ℕ) → list_all is_small front ≡ true → encode_utf8_all text ≡ front ++ more

@@ -1,10 +1,11 @@
 -- The first of two lists of faults, by any total order.
-use Rattle.std.proofs.Common.{◌≡◌, ℕ, zero, suc, ◌+◌, ◌<◌, Bool, true, false, cond, List, [], ◌∷◌, ◌++◌, length, take, get_or, Option, Some, None, is_gt, refl, sym, ap, subst, ◌∙◌, arith}
+use Rattle.std.proofs.Common.{◌≡◌, ℕ, zero, suc, ◌+◌, ◌<◌, true, false, List, [], ◌∷◌, ◌++◌, length, take, get_or, Option, Some, None, is_gt, refl, sym, ap, subst, ◌∙◌, arith}
 use Rattle.std.specs.Prelude.{All}
 use Rattle.std.specs.Cmp.{IsTotalOrder, upto, tied_itself}
 use Rattle.std.specs.Ordering.{ordering_reverse}
 use Rattle.std.specs.declared.cmp.Ordering.{Ordering}
 use Rattle.std.specs.declared.cmp.Ordering.TheVariants.{Less, Equal, Greater}
+use Rattle.std.proofs.lemmas.Bool.{cond_both}
 use Rattle.std.proofs.lemmas.List.{append-nil, take_more}
 use Rattle.std.proofs.lemmas.List.Elements.{All-append, Contains-append_left, Contains-append_right}
 use Rattle.vg_base.specs.First.{IsFirst, sooner}
@@ -37,11 +38,7 @@ module _ {F : Type 0} (cmp : F → F → Ordering) (total : IsTotalOrder cmp) wh
   pub first-append : (fs gs : List F) (a b : Option F) → IsFirst cmp fs a → IsFirst cmp gs b → IsFirst cmp (fs ++ gs) (sooner cmp a b)
   first-append fs gs None b h k = subst (λ (xs : List F). IsFirst cmp (xs ++ gs) b) (sym h) k
   first-append fs gs (Some f) None h k = subst (λ (xs : List F). IsFirst cmp xs (Some f)) (sym (append-nil fs) ∙ ap (λ (ys : List F). fs ++ ys) (sym k)) h
-  first-append fs gs (Some f) (Some g) h k = by_test (is_gt (cmp f g)) refl
-    where
-      by_test : (b : Bool) → is_gt (cmp f g) ≡ b → IsFirst cmp (fs ++ gs) (cond b (Some g) (Some f))
-      by_test true e = first-later fs gs f g h k e
-      by_test false e = first-earlier fs gs f g h k e
+  first-append fs gs (Some f) (Some g) h k = cond_both (is_gt (cmp f g)) (Some g) (Some f) (IsFirst cmp (fs ++ gs)) (first-later fs gs f g h k) (first-earlier fs gs f g h k)
 
   pub first-one : (f : F) → IsFirst cmp (f ∷ []) (Some f)
   first-one f = ((0, omega arith, refl), at)

@@ -3,7 +3,7 @@ use Rattle.std.proofs.Common.{◌≡◌, ℕ, suc, ◌+◌, ◌≤◌, Bool, tru
 use Rattle.std.specs.Prelude.{count_by}
 use Rattle.std.specs.List.{suffix_len, prefix_len, zip}
 use Rattle.std.proofs.lemmas.List.{reverse-append}
-use Rattle.std.proofs.lemmas.List.Sums.{sum_by-append, count_by-le-length, suffix_len-le-length}
+use Rattle.std.proofs.lemmas.List.Sums.{sum_by_push, count_by-le-length, suffix_len-le-length}
 use Rattle.std.proofs.lemmas.Slice.Zip.{length-zip}
 use lib.Dec.{eqb-suc-zero}
 use borrow.Author.Tests.{eqb-true}
@@ -29,13 +29,10 @@ unfolding last_from
 zip-push before [] c = refl
 zip-push before (x ∷ cs) c = ap (λ l. (before, x) ∷ l) (zip-push x cs c)
 
-count_by-push : {X : Type 0} (p : X → Bool) (xs : List X) (x : X) → count_by p (xs ++ x ∷ []) ≡ count_by p xs + cond (p x) 1 0
-count_by-push p xs x = sum_by-append (λ x. cond (p x) 1 0) xs (x ∷ []) ∙ omega arith
-
 pub line_ends-push : (front : List ℕ) (c : ℕ) → line_ends (front ++ c ∷ []) ≡ line_ends front + cond (ends_line (last_of front) c) 1 0
 line_ends-push front c =
     ap (λ l. count_by (λ pair. ends_line pair.0 pair.1) l) (zip-push 0 front c)
-    ∙ (count_by-push (λ pair. ends_line pair.0 pair.1) (zip (0 ∷ front) front) (last_from 0 front, c)
+    ∙ (sum_by_push (λ pair. cond (ends_line pair.0 pair.1) 1 0) (zip (0 ∷ front) front) (last_from 0 front, c)
     ∙ ap (λ d. line_ends front + cond (ends_line d c) 1 0) (sym (last_of-is front)))
 
 suffix_len-push : (p : ℕ → Bool) (xs : List ℕ) (c : ℕ) → suffix_len p (xs ++ c ∷ []) ≡ cond (p c) (1 + suffix_len p xs) 0

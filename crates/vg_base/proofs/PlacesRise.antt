@@ -8,7 +8,7 @@ use Rattle.std.specs.declared.cmp.Ordering.TheVariants.{Less, Equal, Greater}
 use Rattle.vg_base.specs.declared.place.Place.{Place}
 use Rattle.vg_base.specs.Places.{ends_line, last_of, takes_column, moves_on, place_after, place_order}
 use Rattle.vg_base.proofs.Lines.{place_after-end, place_after-column, place_after-same}
-use Rattle.vg_base.proofs.Order.{nat_cmp-lt, nat_cmp-same}
+use Rattle.vg_base.proofs.Order.{nat_cmp-lt}
 
 places_total : IsTotalOrder place_order
 places_total = then_total (on_total (λ p. p.line) nat_cmp_total) (on_total (λ p. p.column) nat_cmp_total)
@@ -18,7 +18,7 @@ next_line p q e = ap (λ o. ordering_then o (nat_cmp p.column q.column)) (nat_cm
 
 next_column : (p q : Place) → q.line ≡ p.line → q.column ≡ p.column + 1 → place_order p q ≡ Less
 next_column p q l e =
-    ap (λ o. ordering_then o (nat_cmp p.column q.column)) (ap (nat_cmp p.line) l ∙ nat_cmp-same p.line) ∙ nat_cmp-lt p.column q.column (omega (arith, e))
+    ap (λ o. ordering_then o (nat_cmp p.column q.column)) (ap (nat_cmp p.line) l ∙ tied_itself nat_cmp_total p.line) ∙ nat_cmp-lt p.column q.column (omega (arith, e))
 
 -- one character: the place moves on, or stays
 step_on : (front : List ℕ) (c : ℕ) → moves_on front c ≡ true → place_order (place_after front) (place_after (front ++ c ∷ [])) ≡ Less

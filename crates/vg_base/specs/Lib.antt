@@ -3,7 +3,12 @@ pub mod Declarations
 pub mod Faults
 pub mod First
 pub mod Kinds
+pub mod Limits
 pub mod Places
 pub mod Walking
 pub mod Pairs
+pub mod Refusals
 pub mod formers
+pub mod Cut
+pub mod Reading
+pub mod Runs

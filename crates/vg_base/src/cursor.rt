@@ -1,3 +1,4 @@
+//! A walk over the characters of a text that counts lines, columns and bytes.
 ghost use Rattle.std.specs.Prelude.{◌≡◌, ◌≤◌, [], ◌∷◌, ◌++◌, take, drop, length, IfSome, IfNone};
 ghost use Rattle.vg_base.specs.Characters.{byte_len};
 ghost use Rattle.vg_base.specs.Places.{place_after};
@@ -70,7 +71,7 @@ impl<'a> Cursor<'a> {
         ensures unchanged { IfNone result (self.new ≡ self.old) }
     {
         let c = *self.characters.get(self.at)?;
-        self.place = place_past(&self.characters[..self.at], self.place, c);
+        self.place = place_past(self.characters[..self.at].last().copied(), self.place, c);
         self.byte += c.len_utf8() as u64;
         self.at += 1;
         Some(c)

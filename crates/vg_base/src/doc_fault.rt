@@ -6,6 +6,7 @@ ghost use Rattle.vg_base.specs.Faults.{doc_kind_number, doc_kind_name};
 
 use crate::place::Place;
 use std::cmp::Ordering;
+use std::fmt;
 
 /// What is wrong with a document, in the order of the kinds' numbers.
 #[derive(Clone, Copy, Debug, PartialEq, Eq)]
@@ -22,7 +23,7 @@ pub enum DocKind {
     Unclosed,
     /// A lexeme that does not fit the syntax.
     Unexpected,
-    /// A second declaration of one kind.
+    /// A second declaration of one kind; only lexicons and metadata may be declared again.
     DeclaredTwice,
     /// A second rule of one name.
     RuleTwice,
@@ -36,7 +37,7 @@ pub enum DocKind {
     BadWeight,
     /// A token of a grammar for keys that is no list of keys.
     BadKey,
-    /// A reference that is no URI, or too long, or without a base.
+    /// A reference that is no URI, or too long, or whose fragment is no name.
     BadUri,
     /// A tag format that is not known.
     TagFormat,
@@ -119,4 +120,12 @@ impl Ord for DocKind {
 pub struct DocFault {
     pub place: Place,
     pub kind: DocKind,
+}
+
+/// The kind's name, and the place as line and column.
+impl fmt::Display for DocFault {
+    fn fmt<W: fmt::Write>(&self, f: &mut fmt::Formatter<W>) -> fmt::Result {
+        let DocFault { place, kind } = *self;
+        write!(f, "{} at {}:{}", kind.name(), place.line, place.column)
+    }
 }

@@ -1,3 +1,4 @@
+//! The format of the tags of a grammar.
 ghost use Rattle.std.specs.Prelude.{◌≡◌};
 ghost use Rattle.vg_base.specs.Declarations.{format_name};
 

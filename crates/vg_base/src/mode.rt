@@ -1,3 +1,4 @@
+//! The mode of a grammar.
 ghost use Rattle.std.specs.Prelude.{◌≡◌};
 ghost use Rattle.vg_base.specs.Declarations.{mode_name};
 
