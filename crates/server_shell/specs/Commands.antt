@@ -1,15 +1,16 @@
 -- The commands that are answered today, as JSON values (RFC 8259).
-use Rattle.std.specs.Prelude.{◌≡◌, ℕ, ◌==◌, List, [], ◌∷◌, Bool, false, if◌then◌else◌, Option, Some, None, option_map, option_and_then, codes, chars, ⊤, Result, Ok, Err}
-use Rattle.std.specs.Option.{option_map_or}
+use Rattle.std.specs.Prelude.{◌≡◌, ℕ, ◌==◌, List, [], ◌∷◌, Bool, false, if◌then◌else◌, Option, Some, None, option_map, option_and_then, codes, chars, Result}
+use Rattle.std.specs.Option.{option_map_or, ok_or}
 use Rattle.std.specs.Str.{is_utf8, bytes_eq}
+use Rattle.vg_base.specs.Refusals.{Gives}
+use Rattle.vg_base.specs.declared.refused.Refused.{Refused}
 use Rattle.serde_json.specs.Data.{Data, Items, no_items, item}
 use Rattle.serde_json.specs.Events.{members_len}
 use Rattle.serde_json.specs.Find.{get, as_str, as_array, as_object}
 use Rattle.serde_json.specs.Read.{read}
 use Rattle.server_shell.specs.declared.command.Command.{Command}
 use Rattle.server_shell.specs.declared.command.Command.TheVariants as command
-use Rattle.server_shell.specs.declared.command.Unread.{Unread}
-use Rattle.server_shell.specs.declared.command.Unread.TheVariants.{NoCommand, Memory}
+use Rattle.server_shell.specs.declared.command.NoCommand.{NoCommand}
 
 -- the JSON value of a line; none where the bytes aren't UTF-8
 abbrev pub value_of : List ℕ → Option Data
@@ -72,8 +73,9 @@ command_of d = option_and_then (λ verb. row_of verb d) (option_and_then as_str 
 abbrev pub command_in : List ℕ → Option Command
 command_in line = option_and_then command_of (value_of line)
 
--- A reader's answer: what there is, or that there is nothing. Want of memory is free.
-abbrev pub Gives : {T : Type 0} → Result T Unread → Option T → Type 0
-Gives (Ok x) o = o ≡ Some x
-Gives (Err NoCommand) o = o ≡ None
-Gives (Err Memory) o = ⊤
+abbrev pub no_command : NoCommand
+no_command = record {}
+
+-- what a reader finds: a value, or that there is none
+abbrev pub Finds : {T : Type 0} → Result T (Refused NoCommand) → Option T → Type 0
+Finds result found = Gives result (ok_or found no_command)

@@ -8,13 +8,13 @@ ghost use Rattle.server_shell.specs.Replies.{CanPublish, CanPut, CanTry, Either,
 ghost use Rattle.server_shell.specs.State.{after_command, after_line, start};
 ghost use Rattle.server_shell.specs.Words.{words_of};
 
-use super::command::{Command, Unread, read_command};
+use super::command::{Command, NoCommand, read_command};
 use super::form::{has_alternative, is_key, read_text};
 use super::reply::{Body, Refusal};
 use super::words::{bytes_in, joined, words_of};
 use std::alloc::Global;
 use std::marker::Model;
-use vg_base::{Memory, Text};
+use vg_base::{Memory, Refused, Text};
 
 /// The most bytes of a text.
 const TEXT_LIMIT: usize = 16_384;
@@ -264,8 +264,8 @@ impl Server {
     {
         match read_command(self.alloc, line) {
             Ok(command) => Ok(self.apply(command)),
-            Err(Unread::NoCommand) => Ok(NOT_BUILT),
-            Err(Unread::Memory) => Err(Memory),
+            Err(Refused::Fault(NoCommand)) => Ok(NOT_BUILT),
+            Err(Refused::Memory) => Err(Memory),
         }
     }
 

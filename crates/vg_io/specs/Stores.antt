@@ -6,8 +6,15 @@ use Rattle.std.specs.Cmp.Lexicographic.{slice_cmp}
 use Rattle.std.specs.List.Sorted.{IsStrictlySortedBy}
 use Rattle.std.specs.Map.{keys_of}
 use Rattle.vg_base.specs.Pairs.{find}
+use Rattle.vg_base.specs.declared.refused.Refused.{Refused}
+use Rattle.vg_base.specs.declared.refused.Refused.TheVariants as refused
+use Rattle.vg_io.specs.declared.source.Failed.{Failed}
 use Rattle.vg_io.specs.Outside.{counted}
 use Rattle.vg_io.specs.Objects.{is_named}
+
+-- the folder or a file could not be had
+abbrev pub store_fault : Refused Failed
+store_fault = refused.Fault (record {})
 
 -- the names and bytes of files, in rising order of names
 abbrev pub Files : Type 0

@@ -1,7 +1,9 @@
 //! The folders of the system: the trusted edge.
 ghost use Rattle.std.specs.Prelude.{◌≡◌, ◌≤◌, None};
 ghost use Rattle.vg_io.specs.Outside.{Rose};
+ghost use Rattle.vg_io.specs.Stores.{store_fault};
 
+use crate::source::Failed;
 use crate::store::{Store, StoreFailed, names_in};
 use std::alloc::Global;
 use std::fs;
@@ -9,7 +11,7 @@ use std::io::{self, ErrorKind};
 use std::marker::Model;
 use std::path::Path;
 use std::rt::Files;
-use vg_base::{Text, TextMap};
+use vg_base::{Refused, Text, TextMap};
 
 /// The files of a folder whose names end in `.gram`. It tells none of them, and the folder may be
 /// changed by others. A name that is not UTF-8 is a fault, and so is a call before `open`.
@@ -45,9 +47,9 @@ impl<'a, R> DirStore<'a, R> {
     fn meets(&mut self, failed: StoreFailed) -> StoreFailed
         ensures same { result ≡ failed }
         ensures never_falls { self.old ≤ self.new }
-        ensures rises { failed ≡ StoreFailed.Fault → Rose self.old self.new }
+        ensures rises { failed ≡ store_fault → Rose self.old self.new }
     {
-        if failed == StoreFailed::Fault {
+        if matches!(failed, Refused::Fault(_)) {
             self.faults = self.faults.saturating_add(1);
         }
         failed
@@ -69,7 +71,7 @@ impl<'a, R: Files + AllocGlobal + Clone + Drop> Store for DirStore<'a, R> {
     fn list(&mut self, alloc: Global) -> Result<Vec<Text>, StoreFailed> {
         let found = match &self.folder {
             Some(folder) => grammars_in(self.rt, alloc, folder),
-            None => Err(StoreFailed::Fault),
+            None => Err(Refused::Fault(Failed)),
         };
         match found {
             Ok(found) => Ok(names_in(alloc, &found)?),
@@ -80,7 +82,7 @@ impl<'a, R: Files + AllocGlobal + Clone + Drop> Store for DirStore<'a, R> {
     fn load(&mut self, alloc: Global, name: &Text) -> Result<Vec<u8>, StoreFailed> {
         let found = match &self.folder {
             Some(folder) => bytes_in(self.rt, alloc, folder, name),
-            None => Err(StoreFailed::Fault),
+            None => Err(Refused::Fault(Failed)),
         };
         match found {
             Ok(bytes) => Ok(bytes),
@@ -115,7 +117,7 @@ fn bytes_in<R: Files + AllocGlobal + Clone + Drop>(
 ) -> Result<Vec<u8>, StoreFailed> {
     let path = match Path::new(folder.as_str()).join(alloc, name.as_str()) {
         Ok(path) => path,
-        Err(_) => return Err(StoreFailed::Memory),
+        Err(_) => return Err(Refused::Memory),
     };
     fs::read(rt, path.as_path()).map_err(failure)
 }
@@ -123,7 +125,7 @@ fn bytes_in<R: Files + AllocGlobal + Clone + Drop>(
 /// What a failure of the system is to a store.
 fn failure(e: io::Error) -> StoreFailed {
     match e.kind() {
-        ErrorKind::OutOfMemory => StoreFailed::Memory,
-        _ => StoreFailed::Fault,
+        ErrorKind::OutOfMemory => Refused::Memory,
+        _ => Refused::Fault(Failed),
     }
 }

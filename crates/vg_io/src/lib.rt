@@ -25,7 +25,7 @@ pub use adapters::{ReadSource, WriteSink};
 pub use dir_store::DirStore;
 pub use gate::{Gate, Open};
 pub use laws::lines_are_cut_at_feeds;
-pub use limits::{INPUT_LIMIT, LINE_LIMIT};
+pub use limits::{INPUT_LIMIT, LINE_LIMIT, lines_have_their_limits};
 pub use lines::{Finish, LineReader, Next};
 pub use memory_sink::MemSink;
 pub use memory_source::MemSource;

@@ -2,14 +2,15 @@
 ghost use Rattle.std.specs.Prelude.{◌≡◌, ℕ, ◌≤◌, ◌↔◌, List, false, Some, Err, IsTrue, IsErr, IfOk, is_ok};
 ghost use Rattle.std.specs.List.{All};
 ghost use Rattle.vg_io.specs.Outside.{Rose};
-ghost use Rattle.vg_io.specs.Stores.{ListsNames, HasBytes, IsInByteOrder, IsListed, meets_fault, after_call, after_list};
+ghost use Rattle.vg_io.specs.Stores.{ListsNames, HasBytes, IsInByteOrder, IsListed, meets_fault, after_call, after_list, store_fault};
 
 use crate::calls::is_failing;
+use crate::source::Failed;
 use crate::store::{Store, StoreFailed, names_in};
 use sqlite_items::Items;
 use std::alloc::Global;
 use std::marker::Model;
-use vg_base::{Memory, Text, TextMap};
+use vg_base::{Memory, Refused, Text, TextMap};
 
 /// Files in memory.
 #[derive(Drop)]
@@ -84,15 +85,15 @@ impl Store for MemStore {
         ensures kept { Some self.new.files ≡ Some self.old.files }
         ensures stays { (name : List ℕ) → IsListed self.old name → IsListed self.new name }
         ensures never_falls { self.old.faults ≤ self.new.faults }
-        ensures cause { result ≡ Err StoreFailed.Fault → Rose self.old.faults self.new.faults }
+        ensures cause { result ≡ Err store_fault → Rose self.old.faults self.new.faults }
 
         // What this one does at each call.
         ensures fails { IsErr result ↔ IsTrue (meets_fault self.old) }
-        ensures fault { IsErr result → result ≡ Err StoreFailed.Fault }
+        ensures fault { IsErr result → result ≡ Err store_fault }
         ensures after { self.new ≡ after_call self.old }
     {
         if self.meets_fault() {
-            return Err(StoreFailed::Fault);
+            return Err(Refused::Fault(Failed));
         }
         Ok(())
     }
@@ -105,14 +106,14 @@ impl Store for MemStore {
         ensures kept { Some self.new.files ≡ Some self.old.files }
         ensures stays { (name : List ℕ) → IsListed self.old name → IsListed self.new name }
         ensures never_falls { self.old.faults ≤ self.new.faults }
-        ensures cause { result ≡ Err StoreFailed.Fault → Rose self.old.faults self.new.faults }
+        ensures cause { result ≡ Err store_fault → Rose self.old.faults self.new.faults }
 
         // What this one does at each call.
-        ensures fails { (result ≡ Err StoreFailed.Fault) ↔ IsTrue (meets_fault self.old) }
+        ensures fails { (result ≡ Err store_fault) ↔ IsTrue (meets_fault self.old) }
         ensures after { self.new ≡ after_list (is_ok result) self.old }
     {
         if self.meets_fault() {
-            return Err(StoreFailed::Fault);
+            return Err(Refused::Fault(Failed));
         }
         let names = names_in(alloc, &self.files)?;
         self.listed = true;
@@ -126,19 +127,19 @@ impl Store for MemStore {
         ensures kept { Some self.new.files ≡ Some self.old.files }
         ensures stays { (listed : List ℕ) → IsListed self.old listed → IsListed self.new listed }
         ensures never_falls { self.old.faults ≤ self.new.faults }
-        ensures cause { result ≡ Err StoreFailed.Fault → Rose self.old.faults self.new.faults }
+        ensures cause { result ≡ Err store_fault → Rose self.old.faults self.new.faults }
 
         // What this one does at each call.
-        ensures fails { (result ≡ Err StoreFailed.Fault) ↔ IsTrue (meets_fault self.old) }
+        ensures fails { (result ≡ Err store_fault) ↔ IsTrue (meets_fault self.old) }
         ensures after { self.new ≡ after_call self.old }
     {
         if self.meets_fault() {
-            return Err(StoreFailed::Fault);
+            return Err(Refused::Fault(Failed));
         }
         match self.files.get(name) {
             Some(bytes) => match Vec::from_slice(alloc, bytes.as_slice()) {
                 Ok(copy) => Ok(copy),
-                Err(_) => Err(StoreFailed::Memory),
+                Err(_) => Err(Refused::Memory),
             },
             None => unreachable!(),
         }

@@ -4,9 +4,17 @@ ghost use Rattle.std.specs.declared.option.Option.{Option};
 ghost use Rattle.std.specs.Io.KnownBytes.{ReadConsumes};
 ghost use Rattle.vg_io.specs.Outside.{Rose, EndsWhereNoneAreLeft};
 
-/// A call of a source or a sink failed.
+use std::fmt;
+
+/// A call of a source, a sink or a store failed.
 #[derive(Clone, Copy, Debug, PartialEq, Eq)]
 pub struct Failed;
+
+impl fmt::Display for Failed {
+    fn fmt<W: fmt::Write>(&self, f: &mut fmt::Formatter<W>) -> fmt::Result {
+        f.write_str("failed")
+    }
+}
 
 /// Bytes that are read from the front.
 pub trait Source {

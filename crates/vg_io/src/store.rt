@@ -4,28 +4,14 @@ ghost use Rattle.std.specs.List.{All};
 ghost use Rattle.std.specs.declared.option.Option.{Option};
 ghost use Rattle.std.specs.Map.{keys_of};
 ghost use Rattle.vg_io.specs.Outside.{Rose};
-ghost use Rattle.vg_io.specs.Stores.{Files, ListsNames, HasBytes, IsInByteOrder};
+ghost use Rattle.vg_io.specs.Stores.{Files, ListsNames, HasBytes, IsInByteOrder, store_fault};
 
+use crate::source::Failed;
 use std::alloc::Global;
-use vg_base::{Memory, Text, TextMap};
+use vg_base::{Memory, Refused, Text, TextMap};
 
-/// A call of a store failed.
-#[derive(Clone, Copy, Debug, PartialEq, Eq)]
-pub enum StoreFailed {
-    /// The folder or a file could not be had.
-    Fault,
-    Memory,
-}
-
-impl From<Memory> for StoreFailed {
-    ghost use Rattle.vg_io.specs.declared.store.StoreFailed.TheVariants as failed;
-
-    ghost from_gives = { λ _ e. e ≡ failed.Memory };
-
-    fn from(_memory: Memory) -> StoreFailed {
-        StoreFailed::Memory
-    }
-}
+/// Why a call of a store gives nothing: the folder or a file could not be had, or memory was short.
+pub type StoreFailed = Refused<Failed>;
 
 /// A folder of files, which no call changes.
 pub trait Store {
@@ -43,7 +29,7 @@ pub trait Store {
         ensures kept { files self.new ≡ files self.old }
         ensures stays { (name : List ℕ) → is_listed self.old name → is_listed self.new name }
         ensures never_falls { faults self.old ≤ faults self.new }
-        ensures cause { result ≡ Err StoreFailed.Fault → Rose (faults self.old) (faults self.new) };
+        ensures cause { result ≡ Err store_fault → Rose (faults self.old) (faults self.new) };
 
     /// The names of the files.
     fn list(&mut self, alloc: Global) -> Result<Vec<Text>, StoreFailed>
@@ -53,7 +39,7 @@ pub trait Store {
         ensures kept { files self.new ≡ files self.old }
         ensures stays { (name : List ℕ) → is_listed self.old name → is_listed self.new name }
         ensures never_falls { faults self.old ≤ faults self.new }
-        ensures cause { result ≡ Err StoreFailed.Fault → Rose (faults self.old) (faults self.new) };
+        ensures cause { result ≡ Err store_fault → Rose (faults self.old) (faults self.new) };
 
     /// The bytes of a file.
     fn load(&mut self, alloc: Global, name: &Text) -> Result<Vec<u8>, StoreFailed>
@@ -62,7 +48,7 @@ pub trait Store {
         ensures kept { files self.new ≡ files self.old }
         ensures stays { (listed : List ℕ) → is_listed self.old listed → is_listed self.new listed }
         ensures never_falls { faults self.old ≤ faults self.new }
-        ensures cause { result ≡ Err StoreFailed.Fault → Rose (faults self.old) (faults self.new) };
+        ensures cause { result ≡ Err store_fault → Rose (faults self.old) (faults self.new) };
 }
 
 /// The keys of a map, in their order.
