@@ -2,4 +2,4 @@ pub mod Members
 pub mod Table
 pub mod Answer
 pub mod Facts
-pub mod Lines
+pub mod Written

@@ -4,6 +4,8 @@ use Rattle.std.specs.List.{list_any}
 use Rattle.std.specs.Option.{option_map_or}
 use Rattle.std.specs.Str.{bytes_eq}
 use Rattle.vg_base.specs.Characters.{byte_len}
+use Rattle.vg_base.specs.Limits as limits
+use Rattle.vg_base.specs.declared.numbers.Area.{Area}
 use Rattle.serde_json.specs.Data.{Data, Items, no_items, item, Members, no_members, member}
 use Rattle.serde_json.specs.Find.{get, as_str, as_array, as_object, as_number, as_u64}
 use Rattle.command_reader.specs.declared.command.MatchLine.{MatchLine}
@@ -33,13 +35,13 @@ texts_of (item d ds) = option_and_then (λ t. option_map (λ ts. t ∷ ts) (text
 abbrev pub list_of : Data → Option (List (List ℕ))
 list_of d = option_and_then texts_of (as_array d)
 
--- a list of at most 64
-abbrev pub up_to_64 : List (List ℕ) → Option (List (List ℕ))
-up_to_64 entries = if nat_le (length entries) 64 then Some entries else None
+-- a list that isn't too long
+abbrev pub few_entries : List (List ℕ) → Option (List (List ℕ))
+few_entries entries = if nat_le (length entries) limits.entries then Some entries else None
 
--- a name of a session: 1 to 64 bytes
+-- a name of a session: not empty, and not too long
 abbrev pub session_name : List ℕ → Option (List ℕ)
-session_name name = if nat_le 1 (byte_len name) && nat_le (byte_len name) 64 then Some name else None
+session_name name = if nat_le 1 (byte_len name) && nat_le (byte_len name) limits.session_name_bytes then Some name else None
 
 -- a number within bounds
 abbrev pub within : ℕ → ℕ → ℕ → Option ℕ
@@ -59,9 +61,9 @@ text_at name d = option_and_then text_of (get name d)
 abbrev pub session_at : Data → Option (List ℕ)
 session_at d = option_and_then session_name (text_at (codes "session") d)
 
--- `entries`: at most 64 texts
+-- `entries`
 abbrev pub entries_at : Data → Option (List (List ℕ))
-entries_at d = option_and_then up_to_64 (option_and_then list_of (get (codes "entries") d))
+entries_at d = option_and_then few_entries (option_and_then list_of (get (codes "entries") d))
 
 -- what a member holds that may be missing
 abbrev pub optional : {T : Type 0} → (Data → Option T) → Option Data → Option (Option T)
@@ -72,17 +74,20 @@ optional read (Some d) = option_map Some (read d)
 abbrev pub rule_at : Data → Option (Option (List ℕ))
 rule_at d = optional text_of (get (codes "rule") d)
 
--- `best`, which may be missing: a number from 1 to 4
+-- `best`, which may be missing: a number from 1 on
 abbrev pub best_at : Data → Option (Option ℕ)
-best_at d = optional (number_of 1 4) (get (codes "best") d)
+best_at d = optional (number_of 1 limits.parses) (get (codes "best") d)
 
--- `area`: a number from 0 to 7, which is 0 where it is missing
+-- `area`: a number, which is 0 where it is missing
 abbrev pub area_number : Option Data → Option ℕ
 area_number None = Some 0
-area_number (Some d) = number_of 0 7 d
+area_number (Some d) = number_of 0 limits.last_area d
 
-abbrev pub area_at : Data → Option ℕ
-area_at d = area_number (get (codes "area") d)
+abbrev pub area_of : ℕ → Area
+area_of n = record { 0 = n }
+
+abbrev pub area_at : Data → Option Area
+area_at d = option_map area_of (area_number (get (codes "area") d))
 
 -- exactly one of tokens and keys
 abbrev pub one_of : Option Data → Option Data → Option MatchLine

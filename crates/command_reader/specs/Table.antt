@@ -9,6 +9,7 @@ use Rattle.command_reader.specs.declared.command.AdminCommand.TheVariants as adm
 use Rattle.command_reader.specs.declared.command.Called.{Called}
 use Rattle.command_reader.specs.declared.command.Command.{Command}
 use Rattle.command_reader.specs.declared.command.Command.TheVariants as command
+use Rattle.command_reader.specs.declared.command.MatchLine.{MatchLine}
 use Rattle.command_reader.specs.declared.command.SessionCommand.TheVariants as session
 
 -- what a row gives to an object whose members all have one of these names
@@ -43,18 +44,28 @@ rule_row d =
     row (codes "do" ∷ codes "area" ∷ codes "session" ∷ codes "uri" ∷ codes "rule" ∷ []) d
     (option_and_then (λ name. both (λ uri rule. (name, uri, rule)) (text_at (codes "uri") d) (rule_at d)) (session_at d))
 
+abbrev pub activate_row : Data → Option Command
+activate_row d = option_map (λ r. command.ForSession r.0 (session.Activate r.1 r.2)) (rule_row d)
+
+abbrev pub deactivate_row : Data → Option Command
+deactivate_row d = option_map (λ r. command.ForSession r.0 (session.Deactivate r.1 r.2)) (rule_row d)
+
+-- what is matched, and what is said of the number of parses
+abbrev pub asked_at : Data → Option (MatchLine × Option ℕ)
+asked_at d = both (λ line best. (line, best)) (line_at d) (best_at d)
+
 -- `do`, `session`, `tokens` or `keys`, and `best` if it stands there
 abbrev pub match_row : Data → Option Command
 match_row d =
     row (codes "do" ∷ codes "area" ∷ codes "session" ∷ codes "tokens" ∷ codes "keys" ∷ codes "best" ∷ []) d
-    (both command.ForSession (session_at d) (both session.Match (line_at d) (best_at d)))
+    (both (λ name asked. command.ForSession name (session.Match asked.0 asked.1)) (session_at d) (asked_at d))
 
 -- `do`, `uri`, `tokens` or `keys`, and `rule` and `best` if they stand there
 abbrev pub try_row : Data → Option Command
 try_row d =
     row (codes "do" ∷ codes "area" ∷ codes "uri" ∷ codes "rule" ∷ codes "tokens" ∷ codes "keys" ∷ codes "best" ∷ []) d
-    (option_and_then (λ uri. option_and_then (λ rule.
-    both (λ line best. command.Try (record { uri = uri; rule = rule; line = line; best = best })) (line_at d) (best_at d)) (rule_at d)) (text_at (codes "uri") d))
+    (option_and_then (λ uri. both (λ rule asked. command.Try (record { uri = uri; rule = rule; line = asked.0; best = asked.1 }))
+    (rule_at d) (asked_at d)) (text_at (codes "uri") d))
 
 -- `do` alone, without an area
 abbrev pub run_row : Data → Option Command
@@ -68,15 +79,17 @@ row_of verb d =
     else if bytes_eq verb (codes "publish") then publish_row d
     else if bytes_eq verb (codes "open") then option_map command.Open (name_row d)
     else if bytes_eq verb (codes "close") then option_map command.Close (name_row d)
-    else if bytes_eq verb (codes "activate") then option_map (λ r. command.ForSession r.0 (session.Activate r.1 r.2)) (rule_row d)
-    else if bytes_eq verb (codes "deactivate") then option_map (λ r. command.ForSession r.0 (session.Deactivate r.1 r.2)) (rule_row d)
+    else if bytes_eq verb (codes "activate") then activate_row d
+    else if bytes_eq verb (codes "deactivate") then deactivate_row d
     else if bytes_eq verb (codes "match") then match_row d
     else if bytes_eq verb (codes "try") then try_row d
     else if bytes_eq verb (codes "run") then run_row d
     else None
 
--- the command that the value is, with its area
+-- the command by the row of its verb, with its area
+abbrev pub called_of : Data → List ℕ → Option Called
+called_of d verb = both (λ c area. record { area = area; command = c }) (row_of verb d) (area_at d)
+
+-- the command that the value is
 abbrev pub command_of : Data → Option Called
-command_of d =
-    option_and_then (λ verb. both (λ c area. record { area = record { 0 = area }; command = c }) (row_of verb d) (area_at d))
-    (option_and_then as_str (get (codes "do") d))
+command_of d = option_and_then (called_of d) (option_and_then as_str (get (codes "do") d))

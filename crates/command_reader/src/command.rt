@@ -1,7 +1,8 @@
 //! The commands of the protocol.
+ghost use Rattle.std.specs.Prelude.{◌≡◌};
+ghost use Rattle.command_reader.specs.Facts.{parses_of};
 
-use sqlite_items::Items;
-use vg_base::{Area, Text};
+use vg_base::{Area, Items, Text};
 
 /// A command with the area that it is for.
 #[derive(Debug, Drop)]
@@ -36,6 +37,7 @@ pub enum AdminCommand {
 pub enum SessionCommand {
     Activate { uri: Text, rule: Option<Text> },
     Deactivate { uri: Text, rule: Option<Text> },
+    /// `best` is the most parses that are asked for; without it one is, the first.
     Match { line: MatchLine, best: Option<u32> },
 }
 
@@ -45,7 +47,7 @@ pub struct TryCommand {
     pub uri: Text,
     pub rule: Option<Text>,
     pub line: MatchLine,
-    /// The most parses that are asked for; without it the first alone.
+    /// The most parses that are asked for; without it one is, the first.
     pub best: Option<u32>,
 }
 
@@ -54,4 +56,11 @@ pub struct TryCommand {
 pub enum MatchLine {
     Tokens(Items<Text>),
     Keys(Text),
+}
+
+/// How many parses are asked for at most, by what `best` says.
+pub fn parses_of(best: Option<u32>) -> u32
+    ensures { result ≡ parses_of best }
+{
+    best.unwrap_or(1)
 }

@@ -8,10 +8,12 @@ mod reader;
 mod refused;
 mod rows;
 
-pub use command::{AdminCommand, Called, Command, MatchLine, SessionCommand, TryCommand};
-pub use laws::lines_are_commands;
+pub use command::{
+    AdminCommand, Called, Command, MatchLine, SessionCommand, TryCommand, parses_of,
+};
+pub use laws::commands_are_read_back;
 pub use reader::read_command;
-pub use refused::LineRefused;
+pub use refused::{LineFault, LineRefused};
 
 #[cfg(test)]
 mod tests;

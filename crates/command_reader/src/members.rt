@@ -1,25 +1,18 @@
 //! What the members of a command's object say.
-ghost use Rattle.std.specs.Prelude.{◌≡◌, map, option_map};
+ghost use Rattle.std.specs.Prelude.{◌≡◌, ◌<◌, ◌^◌, map};
 ghost use Rattle.std.specs.List.{list_any};
 ghost use Rattle.std.specs.Str.{bytes_eq};
 ghost use Rattle.serde_json.specs.View.{view, items_view, members_view};
-ghost use Rattle.command_reader.specs.Answer.{Gives};
+ghost use Rattle.vg_base.specs.Refusals.{Gives};
+ghost use Rattle.command_reader.specs.Answer.{or_not_command};
 ghost use Rattle.command_reader.specs.Members.{area_at, best_at, entries_at, has_only, line_at, list_of, named_within, number_of, rule_at, session_at, text_at, text_of, texts_of};
 
 use crate::command::MatchLine;
-use crate::refused::LineRefused;
+use crate::refused::{LineFault, LineRefused};
 use serde_json::{Map, Value};
-use sqlite_items::Items;
 use std::alloc::Global;
-use vg_base::{Area, Text};
-
-const MOST_ENTRIES: usize = 64;
-
-const LONGEST_NAME: u64 = 64;
-
-const LAST_AREA: u32 = 7;
-
-const MOST_PARSES: u32 = 4;
+use vg_base::limits::{ENTRIES, LAST_AREA, PARSES, SESSION_NAME_BYTES};
+use vg_base::{Area, Items, Refused, Text};
 
 /// Whether a name is one of these.
 fn is_one_of(name: &str, names: &[&str]) -> bool
@@ -30,7 +23,8 @@ fn is_one_of(name: &str, names: &[&str]) -> bool
 
 /// Whether each member has one of these names.
 fn are_named(members: &Map<String, Value>, names: &[&str]) -> bool
-    ensures { result ≡ named_within (map (λ n. n.now) names.now) (members_view members.now.entries) }
+    ensures { result
+        ≡ named_within (map (λ n. n.now) names.now) (members_view members.now.entries) }
 {
     members.keys().all(|name| is_one_of(name.as_str(), names))
 }
@@ -46,16 +40,16 @@ pub fn has_only(value: &Value, names: &[&str]) -> bool
 }
 
 fn text_of(alloc: Global, value: &Value) -> Result<Text, LineRefused>
-    ensures { Gives result (text_of (view value.now)) }
+    ensures { Gives result (or_not_command (text_of (view value.now))) }
 {
     match value.as_str() {
         Some(text) => Ok(Text::of(alloc, text)?),
-        None => Err(LineRefused::NotCommand),
+        None => Err(Refused::Fault(LineFault::NotCommand)),
     }
 }
 
 fn texts_of(alloc: Global, values: &[Value]) -> Result<Items<Text>, LineRefused>
-    ensures { Gives result (texts_of (items_view values.now)) }
+    ensures { Gives result (or_not_command (texts_of (items_view values.now))) }
 {
     let mut texts = Items::new(alloc);
     for value in values {
@@ -65,64 +59,66 @@ fn texts_of(alloc: Global, values: &[Value]) -> Result<Items<Text>, LineRefused>
 }
 
 fn list_of(alloc: Global, value: &Value) -> Result<Items<Text>, LineRefused>
-    ensures { Gives result (list_of (view value.now)) }
+    ensures { Gives result (or_not_command (list_of (view value.now))) }
 {
     match value.as_array() {
         Some(values) => texts_of(alloc, values.as_slice()),
-        None => Err(LineRefused::NotCommand),
+        None => Err(Refused::Fault(LineFault::NotCommand)),
     }
 }
 
-fn number_of(value: &Value, low: u32, high: u32) -> Result<u32, LineRefused>
-    ensures { Gives result (number_of low high (view value.now)) }
+/// A number within bounds.
+fn number_of(value: &Value, low: u64, high: u64) -> Result<u32, LineRefused>
+    requires { high < 2 ^ 32 }
+    ensures { Gives result (or_not_command (number_of low high (view value.now))) }
 {
     match value.as_u64() {
-        Some(number) if u64::from(low) <= number && number <= u64::from(high) => Ok(number as u32),
-        _ => Err(LineRefused::NotCommand),
+        Some(number) if low <= number && number <= high => Ok(number as u32),
+        _ => Err(Refused::Fault(LineFault::NotCommand)),
     }
 }
 
 /// The text of the member of this name.
 pub fn text_at(alloc: Global, value: &Value, name: &str) -> Result<Text, LineRefused>
-    ensures { Gives result (text_at name.now (view value.now)) }
+    ensures { Gives result (or_not_command (text_at name.now (view value.now))) }
 {
     match value.get(name) {
         Some(member) => text_of(alloc, member),
-        None => Err(LineRefused::NotCommand),
+        None => Err(Refused::Fault(LineFault::NotCommand)),
     }
 }
 
-/// The name of a session, which has 1 to 64 bytes.
+/// The name of a session, which has at least one byte.
 pub fn session_at(alloc: Global, value: &Value) -> Result<Text, LineRefused>
-    ensures { Gives result (session_at (view value.now)) }
+    ensures { Gives result (or_not_command (session_at (view value.now))) }
 {
     let name = text_at(alloc, value, "session")?;
     let len = name.byte_len();
-    if 1 <= len && len <= LONGEST_NAME {
+    if 1 <= len && len <= SESSION_NAME_BYTES {
         Ok(name)
     } else {
-        Err(LineRefused::NotCommand)
+        Err(Refused::Fault(LineFault::NotCommand))
     }
 }
 
-/// The entries of a publish, at most 64.
+/// The entries of a publish.
 pub fn entries_at(alloc: Global, value: &Value) -> Result<Items<Text>, LineRefused>
-    ensures { Gives result (entries_at (view value.now)) }
+    ensures { Gives result (or_not_command (entries_at (view value.now))) }
 {
     let Some(member) = value.get("entries") else {
-        return Err(LineRefused::NotCommand);
+        return Err(Refused::Fault(LineFault::NotCommand));
     };
     let entries = list_of(alloc, member)?;
-    if entries.len() <= MOST_ENTRIES {
+    if entries.len() as u64 <= ENTRIES {
         Ok(entries)
     } else {
-        Err(LineRefused::NotCommand)
+        Err(Refused::Fault(LineFault::NotCommand))
     }
 }
 
 /// The rule that is named, or None where the root is meant.
 pub fn rule_at(alloc: Global, value: &Value) -> Result<Option<Text>, LineRefused>
-    ensures { Gives result (rule_at (view value.now)) }
+    ensures { Gives result (or_not_command (rule_at (view value.now))) }
 {
     match value.get("rule") {
         Some(member) => Ok(Some(text_of(alloc, member)?)),
@@ -132,17 +128,17 @@ pub fn rule_at(alloc: Global, value: &Value) -> Result<Option<Text>, LineRefused
 
 /// How many parses are asked for, if that is said.
 pub fn best_at(value: &Value) -> Result<Option<u32>, LineRefused>
-    ensures { Gives result (best_at (view value.now)) }
+    ensures { Gives result (or_not_command (best_at (view value.now))) }
 {
     match value.get("best") {
-        Some(member) => Ok(Some(number_of(member, 1, MOST_PARSES)?)),
+        Some(member) => Ok(Some(number_of(member, 1, PARSES)?)),
         None => Ok(None),
     }
 }
 
 /// The area, which is the first where none is named.
 pub fn area_at(value: &Value) -> Result<Area, LineRefused>
-    ensures { Gives result (option_map (λ n. record { 0 = n }) (area_at (view value.now))) }
+    ensures { Gives result (or_not_command (area_at (view value.now))) }
 {
     match value.get("area") {
         Some(member) => Ok(Area(number_of(member, 0, LAST_AREA)?)),
@@ -152,11 +148,11 @@ pub fn area_at(value: &Value) -> Result<Area, LineRefused>
 
 /// The tokens or the keys.
 pub fn line_at(alloc: Global, value: &Value) -> Result<MatchLine, LineRefused>
-    ensures { Gives result (line_at (view value.now)) }
+    ensures { Gives result (or_not_command (line_at (view value.now))) }
 {
     match (value.get("tokens"), value.get("keys")) {
         (Some(tokens), None) => Ok(MatchLine::Tokens(list_of(alloc, tokens)?)),
         (None, Some(keys)) => Ok(MatchLine::Keys(text_of(alloc, keys)?)),
-        _ => Err(LineRefused::NotCommand),
+        _ => Err(Refused::Fault(LineFault::NotCommand)),
     }
 }

@@ -1,36 +1,17 @@
-ghost use Rattle.std.specs.Prelude.{◌≡◌};
+//! Why a line gives no command.
 
-use std::alloc::AllocError;
 use thiserror::Error;
-use vg_base::Memory;
+use vg_base::Refused;
 
-/// Why a line gives no command.
-#[derive(Debug, Drop, Error)]
-pub enum LineRefused {
+/// What is wrong with a line.
+#[derive(Clone, Copy, Debug, PartialEq, Eq, Error)]
+pub enum LineFault {
+    /// The bytes are no JSON text.
     #[error("the line is no JSON text")]
     BadJson,
+    /// The JSON value has no row in the table of commands.
     #[error("the JSON value is no command")]
     NotCommand,
-    #[error("out of memory")]
-    Memory,
 }
 
-impl From<Memory> for LineRefused {
-    ghost use Rattle.command_reader.specs.declared.refused.LineRefused.TheVariants.{Memory};
-
-    ghost from_gives = { λ _ e. e ≡ Memory };
-
-    fn from(_e: Memory) -> LineRefused {
-        LineRefused::Memory
-    }
-}
-
-impl From<AllocError> for LineRefused {
-    ghost use Rattle.command_reader.specs.declared.refused.LineRefused.TheVariants.{Memory};
-
-    ghost from_gives = { λ _ e. e ≡ Memory };
-
-    fn from(_e: AllocError) -> LineRefused {
-        LineRefused::Memory
-    }
-}
+pub type LineRefused = Refused<LineFault>;

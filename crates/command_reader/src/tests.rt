@@ -1,7 +1,7 @@
-use crate::{AdminCommand, Called, Command, LineRefused, MatchLine, SessionCommand, read_command};
+use crate::{AdminCommand, Called, Command, MatchLine, SessionCommand, read_command};
 use std::alloc::{AllocError, Global};
 use std::test::Fail;
-use vg_base::Text;
+use vg_base::{Refused, Text};
 
 fn rule_shown(alloc: Global, rule: &Option<Text>) -> Result<String, AllocError> {
     match rule {
@@ -95,9 +95,8 @@ fn shown(alloc: Global, line: &[u8]) -> Result<String, AllocError> {
             let command = command_shown(alloc, &command)?;
             format!(in alloc; "{} {command}", area.0)
         }
-        Err(LineRefused::BadJson) => format!(in alloc; "BadJson"),
-        Err(LineRefused::NotCommand) => format!(in alloc; "NotCommand"),
-        Err(LineRefused::Memory) => format!(in alloc; "Memory"),
+        Err(Refused::Fault(fault)) => format!(in alloc; "{fault:?}"),
+        Err(Refused::Memory) => format!(in alloc; "Memory"),
     }
 }
 

@@ -1,15 +1,18 @@
--- A text is divided into the pieces of its keys in one way.
-use Rattle.std.proofs.Common.{◌≡◌, ◌≢◌, ℕ, zero, suc, ◌<◌, ◌≤◌, drop, ◌⊎◌, inl, inr, true, false, not, eqb, List, [], ◌∷◌, ◌++◌, length, Option, Some, None, refl, ap, sym, ◌∙◌, arith, codes}
-use Rattle.std.specs.List.{flat_map, filter_map, cons_option, starts_with, AllByRecursion}
-use Rattle.std.proofs.lemmas.List.{append_assoc, append-nil}
-use Rattle.std.proofs.lemmas.Grind.{flat_map-append}
+-- The keys of a text. No spelling of a sign begins another (`same_sign`), so a text is cut into signs in one way, up to where none begins: one list of
+-- keys, or one place where it stops to spell keys, and never both.
+use Rattle.std.proofs.Common.{◌≡◌, ◌≢◌, ℕ, ◌+◌, ◌<◌, ◌≤◌, drop, ◌⊎◌, inl, inr, true, false, not, eqb, List, [], ◌∷◌, ◌++◌, length, Option, Some, None, refl, ap, sym, ◌∙◌, arith, codes, length-append}
+use Rattle.std.specs.List.{cons_option, starts_with}
+use Rattle.std.proofs.lemmas.List.{append-nil}
 use Rattle.std.proofs.lemmas.List.Elements.{filter_map-append}
 use Rattle.std.proofs.lemmas.Bool.{false≢true, cases_Bool}
 use Rattle.std.proofs.lemmas.Slice.Eq.{starts_is}
-use Rattle.vg_base.proofs.Ascii.{passes}
 use Rattle.std.proofs.lemmas.Bool.Decides.{nat_tests, Decides-eqb}
 use Rattle.vg_base.specs.Characters.{is_space}
-use Rattle.token_forms.specs.Keys.{is_key, Piece, Key, Star, Pound, Space, IsPiece, spelling, key_of, BeginsNoPiece, Divides, AreKeys, IsBadKeyAt, TakesPiece}
+use Rattle.vg_base.specs.Cut.{Piece, characters, Cuts, BeginsNone, IsCut}
+use Rattle.vg_base.proofs.Ascii.{passes}
+use Rattle.vg_base.proofs.Cutting.{OneBegins, one_cutting, one_more, FirstPiece, Looks, some_cutting}
+use Rattle.token_forms.specs.Keys.{is_key, Sign, Key, Star, Pound, Space, IsSign, spelling, HasForm, key_of, keys_in, AreKeys, IsBadKeyAt}
+use Rattle.token_forms.specs.code.Taken.{TakesSign}
 
 -- white space is no key
 spaces_apart : (c : ℕ) → is_space c ≡ true → is_key c ≡ true → ⊥
@@ -22,103 +25,61 @@ differ c d r s n e = let h : c ≡ d = cc in false≢true (sym n ∙ ap (λ x. e
     is_same : (x : ℕ) → eqb x x ≡ true
     is_same x = grind (arith, nat_tests)
 
--- the first piece of a text is one
-pub same_piece : (p q : Piece) (r s : List ℕ) → IsPiece p → IsPiece q → spelling p ++ r ≡ spelling q ++ s → (p ≡ q) × (r ≡ s)
-same_piece (Key c) (Key d) r s p q e = let h : c ≡ d = cc in let t : r ≡ s = cc in (cc, t)
-same_piece (Key c) Star r s p q e = absurd (let h : c ≡ 115 = cc in false≢true (ap is_key (sym h) ∙ p))
-same_piece (Key c) Pound r s p q e = absurd (let h : c ≡ 112 = cc in false≢true (ap is_key (sym h) ∙ p))
-same_piece (Key c) (Space d) r s p q e = absurd (let h : c ≡ d = cc in spaces_apart d q (ap is_key (sym h) ∙ p))
-same_piece Star (Key d) r s p q e = absurd (let h : d ≡ 115 = cc in false≢true (ap is_key (sym h) ∙ q))
-same_piece Star Star r s p q e = let t : r ≡ s = cc in (refl, t)
-same_piece Star Pound r s p q e = absurd (differ 115 112 _ _ refl e)
-same_piece Star (Space d) r s p q e = absurd (let h : d ≡ 115 = cc in false≢true (ap is_space (sym h) ∙ q))
-same_piece Pound (Key d) r s p q e = absurd (let h : d ≡ 112 = cc in false≢true (ap is_key (sym h) ∙ q))
-same_piece Pound Star r s p q e = absurd (differ 112 115 _ _ refl e)
-same_piece Pound Pound r s p q e = let t : r ≡ s = cc in (refl, t)
-same_piece Pound (Space d) r s p q e = absurd (let h : d ≡ 112 = cc in false≢true (ap is_space (sym h) ∙ q))
-same_piece (Space c) (Key d) r s p q e = absurd (let h : c ≡ d = cc in spaces_apart c p (ap is_key h ∙ q))
-same_piece (Space c) Star r s p q e = absurd (let h : c ≡ 115 = cc in false≢true (ap is_space (sym h) ∙ p))
-same_piece (Space c) Pound r s p q e = absurd (let h : c ≡ 112 = cc in false≢true (ap is_space (sym h) ∙ p))
-same_piece (Space c) (Space d) r s p q e = let h : c ≡ d = cc in let t : r ≡ s = cc in (cc, t)
+-- the first sign of a text is one
+pub same_sign : (p q : Sign) (r s : List ℕ) → IsSign p → IsSign q → spelling p ++ r ≡ spelling q ++ s → (p ≡ q) × (r ≡ s)
+same_sign (Key c) (Key d) r s p q e = let h : c ≡ d = cc in let t : r ≡ s = cc in (cc, t)
+same_sign (Key c) Star r s p q e = absurd (let h : c ≡ 115 = cc in false≢true (ap is_key (sym h) ∙ p))
+same_sign (Key c) Pound r s p q e = absurd (let h : c ≡ 112 = cc in false≢true (ap is_key (sym h) ∙ p))
+same_sign (Key c) (Space d) r s p q e = absurd (let h : c ≡ d = cc in spaces_apart d q (ap is_key (sym h) ∙ p))
+same_sign Star (Key d) r s p q e = absurd (let h : d ≡ 115 = cc in false≢true (ap is_key (sym h) ∙ q))
+same_sign Star Star r s p q e = let t : r ≡ s = cc in (refl, t)
+same_sign Star Pound r s p q e = absurd (differ 115 112 _ _ refl e)
+same_sign Star (Space d) r s p q e = absurd (let h : d ≡ 115 = cc in false≢true (ap is_space (sym h) ∙ q))
+same_sign Pound (Key d) r s p q e = absurd (let h : d ≡ 112 = cc in false≢true (ap is_key (sym h) ∙ q))
+same_sign Pound Star r s p q e = absurd (differ 112 115 _ _ refl e)
+same_sign Pound Pound r s p q e = let t : r ≡ s = cc in (refl, t)
+same_sign Pound (Space d) r s p q e = absurd (let h : d ≡ 112 = cc in false≢true (ap is_space (sym h) ∙ q))
+same_sign (Space c) (Key d) r s p q e = absurd (let h : c ≡ d = cc in spaces_apart c p (ap is_key h ∙ q))
+same_sign (Space c) Star r s p q e = absurd (let h : c ≡ 115 = cc in false≢true (ap is_space (sym h) ∙ p))
+same_sign (Space c) Pound r s p q e = absurd (let h : c ≡ 112 = cc in false≢true (ap is_space (sym h) ∙ p))
+same_sign (Space c) (Space d) r s p q e = let h : c ≡ d = cc in let t : r ≡ s = cc in (cc, t)
 
--- nothing begins with no piece
-pub nothing : BeginsNoPiece []
-nothing (Key c) more p e = cc
-nothing Star more p e = cc
-nothing Pound more p e = cc
-nothing (Space c) more p e = cc
+-- ---- one cutting
 
--- where one text is divided in two ways, each as far as it can be, they are one
-once : (ps qs : List Piece) (r s : List ℕ) → AllByRecursion IsPiece ps → AllByRecursion IsPiece qs
-    → flat_map spelling ps ++ r ≡ flat_map spelling qs ++ s → BeginsNoPiece r → BeginsNoPiece s → (ps ≡ qs) × (r ≡ s)
-once [] [] r s a b e t u = (refl, e)
-once [] (q ∷ qs) r s a b e t u = absurd (t q (flat_map spelling qs ++ s) b.0 (e ∙ append_assoc (spelling q) (flat_map spelling qs) s))
-once (p ∷ ps) [] r s a b e t u = absurd (u p (flat_map spelling ps ++ r) a.0 (sym e ∙ append_assoc (spelling p) (flat_map spelling ps) r))
-once (p ∷ ps) (q ∷ qs) r s a b e t u =
-    let regrouped = sym (append_assoc (spelling p) (flat_map spelling ps) r) ∙ (e ∙ append_assoc (spelling q) (flat_map spelling qs) s) in
-    let first = same_piece p q (flat_map spelling ps ++ r) (flat_map spelling qs ++ s) a.0 b.0 regrouped in
-    let others = once ps qs r s a.1 b.1 first.1 t u in
-    let here : p ≡ q = first.0 in
-    let there : ps ≡ qs = others.0 in
-    (cc, others.1)
+one_begins : OneBegins HasForm
+one_begins j k s t r q e f g =
+    let same = same_sign j k r q f.is_sign g.is_sign (ap (λ l. l ++ r) (sym f.spelt) ∙ (e ∙ ap (λ l. l ++ q) g.spelt)) in
+    (same.0, f.spelt ∙ (ap spelling same.0 ∙ sym g.spelt))
 
-pub divides_once : (text : List ℕ) (these those : List Piece) (this that : List ℕ) → Divides text these this → Divides text those that
-    → BeginsNoPiece this → BeginsNoPiece that → (these ≡ those) × (this ≡ that)
-divides_once text these those this that d f t u = once these those this that d.each f.each (sym d.whole ∙ f.whole) t u
+-- nothing begins with no sign
+pub nothing : BeginsNone HasForm []
+nothing kind [] rest e f = written kind f.spelt
+  where
+    written : (sign : Sign) → [] ≡ spelling sign → ⊥
+    written (Key c) e = cc
+    written Star e = cc
+    written Pound e = cc
+    written (Space c) e = cc
+nothing kind (c ∷ slice) rest e f = cc
+
+pub whole_cut : (text : List ℕ) (signs : List (Piece Sign)) → Cuts HasForm text signs [] → IsCut HasForm text signs []
+whole_cut text signs c = record { cuts = c; stuck = nothing }
+
+-- a text is cut as far as it can be in one way
+pub cut_once : (text : List ℕ) (these those : List (Piece Sign)) (this that : List ℕ) → IsCut HasForm text these this → IsCut HasForm text those that → (these ≡ those) × (this ≡ that)
+cut_once = one_cutting HasForm one_begins
 
 pub one_list : (text : List ℕ) (these those : List (List ℕ)) → AreKeys these text → AreKeys those text → these ≡ those
-one_list text these those a b = a.2 ∙ (ap (filter_map key_of) (divides_once text a.0 b.0 [] [] a.1 b.1 nothing nothing).0 ∙ sym b.2)
+one_list text these those a b = a.2 ∙ (ap keys_in (cut_once text a.0 b.0 [] [] (whole_cut text a.0 a.1) (whole_cut text b.0 b.1)).0 ∙ sym b.2)
 
 pub one_place : (text : List ℕ) (here there : ℕ) → IsBadKeyAt here text → IsBadKeyAt there text → here ≡ there
 one_place text here there a b =
-    a.place ∙ (ap (λ ps. length (flat_map spelling ps)) (divides_once text a.pieces b.pieces a.rest b.rest a.divides b.divides a.stuck b.stuck).0 ∙ sym b.place)
+    a.place ∙ (ap (λ signs. length (characters signs)) (cut_once text a.signs b.signs a.rest b.rest a.is_cut b.is_cut).0 ∙ sym b.place)
 
-pub not_both : (text : List ℕ) (pieces : List Piece) (at : ℕ) → Divides text pieces [] → IsBadKeyAt at text → ⊥
-not_both text pieces at d b = b.some (sym (divides_once text pieces b.pieces [] b.rest d b.divides nothing b.stuck).1)
+pub not_both : (text : List ℕ) (keys : List (List ℕ)) (at : ℕ) → AreKeys keys text → IsBadKeyAt at text → ⊥
+not_both text keys at a b = b.some (sym (cut_once text a.0 b.signs [] b.rest (whole_cut text a.0 a.1) b.is_cut).1)
 
--- the next piece joins those before it
-all_more : (ps : List Piece) (p : Piece) → AllByRecursion IsPiece ps → IsPiece p → AllByRecursion IsPiece (ps ++ p ∷ [])
-all_more [] p a h = (h, tt)
-all_more (q ∷ ps) p a h = (a.0, all_more ps p a.1 h)
-
-pub divides_more : (text : List ℕ) (pieces : List Piece) (rest : List ℕ) (key : Option ℕ) (after : List ℕ) → Divides text pieces rest
-    → (t : TakesPiece rest key after) → Divides text (pieces ++ t.piece ∷ []) after
-divides_more text pieces rest key after d t = record {
-  each = all_more pieces t.piece d.each t.is_piece;
-  whole = d.whole ∙ (ap (λ r. flat_map spelling pieces ++ r) t.whole
-      ∙ (sym (append_assoc (flat_map spelling pieces) (spelling t.piece) after)
-      ∙ ap (λ f. f ++ after) (ap (λ l. flat_map spelling pieces ++ l) (sym (append-nil (spelling t.piece))) ∙ sym (flat_map-append spelling pieces (t.piece ∷ [])))));
-}
-
--- the keys of the pieces so far
-pub record SoFar (text : List ℕ) (keys : List (List ℕ)) (rest : List ℕ) : Type 0 where
-  pub pieces : List Piece
-  pub divides : Divides text pieces rest
-  pub spelled : keys ≡ filter_map key_of pieces
-
-module _ (text : List ℕ) (keys : List (List ℕ)) (rest after : List ℕ) where
-  pub key_more : (key : ℕ) → SoFar text keys rest → TakesPiece rest (Some key) after → SoFar text (keys ++ (key ∷ []) ∷ []) after
-  key_more key s t = record {
-    pieces = s.pieces ++ t.piece ∷ [];
-    divides = divides_more text s.pieces rest (Some key) after s.divides t;
-    spelled = ap (λ ks. ks ++ (key ∷ []) ∷ []) s.spelled
-        ∙ (ap (λ o. filter_map key_of s.pieces ++ cons_option o []) (sym t.means) ∙ sym (filter_map-append key_of s.pieces (t.piece ∷ [])));
-  }
-
-  pub space_more : SoFar text keys rest → TakesPiece rest None after → SoFar text keys after
-  space_more s t = record {
-    pieces = s.pieces ++ t.piece ∷ [];
-    divides = divides_more text s.pieces rest None after s.divides t;
-    spelled = s.spelled ∙ (sym (append-nil (filter_map key_of s.pieces))
-        ∙ (ap (λ o. filter_map key_of s.pieces ++ cons_option o []) (sym t.means) ∙ sym (filter_map-append key_of s.pieces (t.piece ∷ []))));
-  }
-
--- a piece isn't empty
-shorter : (text rest : List ℕ) (p : Piece) → text ≡ spelling p ++ rest → length rest < length text
-shorter text rest (Key c) e = omega (arith, ap length e)
-shorter text rest Star e = omega (arith, ap length e)
-shorter text rest Pound e = omega (arith, ap length e)
-shorter text rest (Space c) e = omega (arith, ap length e)
+-- ---- some cutting
 
 begins : (text front : List ℕ) → ((rest : List ℕ) × (text ≡ front ++ rest)) ⊎ ((rest : List ℕ) → text ≢ front ++ rest)
 begins text front =
@@ -128,51 +89,113 @@ begins text front =
       | inr n ↦ inr (λ rest e. false≢true (sym n ∙ s.1 rest e))
     ]
 
--- a text begins with a piece, or with none
-first : (c : ℕ) (text : List ℕ) → ((piece : Piece) × (rest : List ℕ) × IsPiece piece × (c ∷ text ≡ spelling piece ++ rest)) ⊎ BeginsNoPiece (c ∷ text)
-first c text = elim (begins (c ∷ text) (codes "star")) [
-  | inl s ↦ inl (Star, s.0, tt, s.1)
+-- a sign isn't empty
+some_sign : (sign : Sign) → 0 < length (spelling sign)
+some_sign (Key c) = omega arith
+some_sign Star = omega arith
+some_sign Pound = omega arith
+some_sign (Space c) = omega arith
+
+sign_first : (text : List ℕ) (sign : Sign) (rest : List ℕ) → IsSign sign → text ≡ spelling sign ++ rest → FirstPiece HasForm text
+sign_first text sign rest is e = record { kind = sign; slice = spelling sign; rest = rest; whole = e; form = record { is_sign = is; spelt = refl }; some = some_sign sign }
+
+-- a text begins with a sign, or with none
+looks : Looks HasForm
+looks [] = inr nothing
+looks (c ∷ text) = elim (begins (c ∷ text) (codes "star")) [
+  | inl s ↦ inl (sign_first (c ∷ text) Star s.0 tt s.1)
   | inr star ↦ elim (begins (c ∷ text) (codes "pound")) [
-    | inl s ↦ inl (Pound, s.0, tt, s.1)
+    | inl s ↦ inl (sign_first (c ∷ text) Pound s.0 tt s.1)
     | inr pound ↦ elim (cases_Bool (is_key c)) [
-      | inl k ↦ inl (Key c, text, k, refl)
+      | inl k ↦ inl (sign_first (c ∷ text) (Key c) text k refl)
       | inr key ↦ elim (cases_Bool (is_space c)) [
-        | inl s ↦ inl (Space c, text, s, refl)
-        | inr space ↦ inr (none star pound key space)
+        | inl s ↦ inl (sign_first (c ∷ text) (Space c) text s refl)
+        | inr space ↦ inr (λ sign slice rest e f. none star pound key space sign rest f.is_sign (e ∙ ap (λ l. l ++ rest) f.spelt))
       ]
     ]
   ]
 ]
   where
     none : ((rest : List ℕ) → c ∷ text ≢ codes "star" ++ rest) → ((rest : List ℕ) → c ∷ text ≢ codes "pound" ++ rest)
-        → is_key c ≡ false → is_space c ≡ false → BeginsNoPiece (c ∷ text)
-    none star pound key space (Key d) more h e = let same : c ≡ d = cc in false≢true (sym key ∙ (ap is_key same ∙ h))
-    none star pound key space Star more h e = star more e
-    none star pound key space Pound more h e = pound more e
-    none star pound key space (Space d) more h e = let same : c ≡ d = cc in false≢true (sym space ∙ (ap is_space same ∙ h))
-
--- each text is pieces, and a rest that begins with none
-divided : (n : ℕ) (text : List ℕ) → length text ≤ n → (pieces : List Piece) × (rest : List ℕ) × Divides text pieces rest × BeginsNoPiece rest
-divided n [] h = ([], [], record { each = tt; whole = refl }, nothing)
-divided zero (c ∷ text) h = absurd (omega arith)
-divided (suc n) (c ∷ text) h = elim (first c text) [
-  | inl f ↦
-      let less : length f.1 < length (c ∷ text) = shorter (c ∷ text) f.1 f.0 f.3 in
-      let others = divided n f.1 (omega (arith, less, h)) in (
-        f.0 ∷ others.0,
-        others.1,
-        record {
-          each = (f.2, others.2.each);
-          whole = f.3 ∙ (ap (λ r. spelling f.0 ++ r) others.2.whole ∙ sym (append_assoc (spelling f.0) (flat_map spelling others.0) others.1));
-        },
-        others.3,
-      )
-  | inr none ↦ ([], c ∷ text, record { each = tt; whole = refl }, none)
-]
+        → is_key c ≡ false → is_space c ≡ false → (sign : Sign) (rest : List ℕ) → IsSign sign → c ∷ text ≡ spelling sign ++ rest → ⊥
+    none star pound key space (Key d) rest h e = let same : c ≡ d = cc in false≢true (sym key ∙ (ap is_key same ∙ h))
+    none star pound key space Star rest h e = star rest e
+    none star pound key space Pound rest h e = pound rest e
+    none star pound key space (Space d) rest h e = let same : c ≡ d = cc in false≢true (sym space ∙ (ap is_space same ∙ h))
 
 pub some_division : (text : List ℕ) → ((keys : List (List ℕ)) × AreKeys keys text) ⊎ ((at : ℕ) × IsBadKeyAt at text)
-some_division text = let d = divided (length text) text (omega arith) in go d.0 d.1 d.2 d.3
+some_division text = let cut = some_cutting HasForm looks text in go cut.pieces cut.stop cut.is_cut
   where
-    go : (pieces : List Piece) (rest : List ℕ) → Divides text pieces rest → BeginsNoPiece rest → ((keys : List (List ℕ)) × AreKeys keys text) ⊎ ((at : ℕ) × IsBadKeyAt at text)
-    go pieces [] d s = inl (filter_map key_of pieces, (pieces, d, refl))
-    go pieces (c ∷ rest) d s = inr (length (flat_map spelling pieces), record { pieces = pieces; rest = c ∷ rest; divides = d; some = λ e. cc; stuck = s; place = refl })
+    go : (signs : List (Piece Sign)) (rest : List ℕ) → IsCut HasForm text signs rest → ((keys : List (List ℕ)) × AreKeys keys text) ⊎ ((at : ℕ) × IsBadKeyAt at text)
+    go signs [] h = inl (keys_in signs, (signs, h.cuts, refl))
+    go signs (c ∷ rest) h = inr (length (characters signs), record { signs = signs; rest = c ∷ rest; is_cut = h; some = λ e. cc; place = refl })
+
+-- ---- the loops
+
+-- the keys of the signs so far
+pub record SoFar (text : List ℕ) (keys : List (List ℕ)) (rest : List ℕ) : Type 0 where
+  pub signs : List (Piece Sign)
+  pub cuts : Cuts HasForm text signs rest
+  pub spelled : keys ≡ keys_in signs
+
+-- a sign as a piece
+abbrev piece : Sign → Piece Sign
+piece sign = record { kind = sign; slice = spelling sign }
+
+module _ (text : List ℕ) (keys : List (List ℕ)) (rest after : List ℕ) (s : SoFar text keys rest) where
+  cut_more : (key : Option ℕ) (t : TakesSign rest key after) → Cuts HasForm text (s.signs ++ piece t.sign ∷ []) after
+  cut_more key t = one_more HasForm text s.signs rest (piece t.sign) after s.cuts t.whole (record { is_sign = t.is_sign; spelt = refl })
+
+  keys_more : (key : Option ℕ) (t : TakesSign rest key after) → keys_in (s.signs ++ piece t.sign ∷ []) ≡ keys ++ cons_option (key_of t.sign) []
+  keys_more key t = filter_map-append (λ (p : Piece Sign). key_of p.kind) s.signs (piece t.sign ∷ []) ∙ ap (λ ks. ks ++ cons_option (key_of t.sign) []) (sym s.spelled)
+
+  pub key_more : (key : ℕ) → TakesSign rest (Some key) after → SoFar text (keys ++ (key ∷ []) ∷ []) after
+  key_more key t = record {
+    signs = s.signs ++ piece t.sign ∷ [];
+    cuts = cut_more (Some key) t;
+    spelled = sym (keys_more (Some key) t ∙ ap (λ o. keys ++ cons_option o []) t.means);
+  }
+
+  pub space_more : TakesSign rest None after → SoFar text keys after
+  space_more t = record {
+    signs = s.signs ++ piece t.sign ∷ [];
+    cuts = cut_more None t;
+    spelled = sym (keys_more None t ∙ (ap (λ o. keys ++ cons_option o []) t.means ∙ append-nil keys));
+  }
+
+-- so many keys so far
+pub record SoMany (text : List ℕ) (number : ℕ) (rest : List ℕ) : Type 0 where
+  pub keys : List (List ℕ)
+  pub so_far : SoFar text keys rest
+  pub counted : number ≡ length keys
+  -- a key takes a byte at least
+  pub bound : number + length rest ≤ length text
+
+-- a sign counts where it is a key
+abbrev pub flagged : Option ℕ → ℕ
+flagged None = 0
+flagged (Some key) = 1
+
+pub many_more : (text : List ℕ) (number : ℕ) (rest after : List ℕ) (key : Option ℕ) → SoMany text number rest → TakesSign rest key after → SoMany text (number + flagged key) after
+many_more text number rest after None s t =
+    let long = ap length t.whole ∙ length-append (spelling t.sign) after in
+    let bound = s.bound in
+    let counted = s.counted in
+    record {
+      keys = s.keys;
+      so_far = space_more text s.keys rest after s.so_far t;
+      counted = omega arith;
+      bound = omega arith;
+    }
+many_more text number rest after (Some key) s t =
+    let long = ap length t.whole ∙ length-append (spelling t.sign) after in
+    let some = some_sign t.sign in
+    let bound = s.bound in
+    let counted = s.counted in
+    let one_longer = length-append s.keys ((key ∷ []) ∷ []) in
+    record {
+      keys = s.keys ++ (key ∷ []) ∷ [];
+      so_far = key_more text s.keys rest after s.so_far key t;
+      counted = omega arith;
+      bound = omega arith;
+    }

@@ -1,2 +1,5 @@
-pub mod Keys
 pub mod Words
+pub mod Keys
+pub mod Counts
+-- for private contracts alone
+pub mod code

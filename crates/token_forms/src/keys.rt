@@ -1,30 +1,23 @@
-ghost use Rattle.std.specs.Prelude.{◌≡◌, ◌++◌, ◌↔◌, ◌⊎◌, ℕ, List, [], ◌∷◌, true, IfOk, IfSome, IfNone, MatchOption};
-ghost use Rattle.std.specs.List.{filter_map};
-ghost use Rattle.std.specs.Result.{IsErrOf};
-ghost use Rattle.token_forms.specs.Keys.{is_key, Piece, IsPiece, spelling, key_of, BeginsNoPiece, Divides, AreKeys, IsBadKeyAt, TakesPiece};
-ghost use Rattle.token_forms.specs.declared.keys.KeyRefused.TheVariants as refused;
+//! The keys that a text spells.
+ghost use Rattle.std.specs.Prelude.{◌≡◌, ◌≤◌, ◌+◌, ◌++◌, ◌⊎◌, ℕ, List, [], ◌∷◌, true, IfOk, IfSome, IfNone, length};
+ghost use Rattle.vg_base.specs.Cut.{Piece, IsCut, BeginsNone};
+ghost use Rattle.vg_base.specs.Refusals.{Meets};
+ghost use Rattle.token_forms.specs.Keys.{is_key, Sign, IsSign, spelling, HasForm, keys_in, AreKeys, IsBadKeyAt, Spells, SpellsSoMany};
+ghost use Rattle.token_forms.specs.code.Taken.{TakesSign};
 
-use sqlite_items::Items;
 use std::alloc::Global;
 use thiserror::Error;
-use vg_base::{Memory, Text, Word, is_space};
+use vg_base::{Items, Memory, Refused, Text, Word, is_space};
 
-#[derive(Debug, Drop, Error)]
-pub enum KeyRefused {
-    /// The place, in characters from 0, of the first that begins no key.
-    #[error("character {at} begins no key")]
-    BadKey { at: u64 },
-    #[error("out of memory")]
-    Memory,
+/// The place, in characters from 0, of the first that begins no key.
+#[derive(Clone, Copy, Debug, PartialEq, Eq, Error)]
+#[error("character {at} begins no key")]
+pub struct BadKey {
+    pub at: u64,
 }
 
-impl From<Memory> for KeyRefused {
-    ghost from_gives = { λ _ e. e ≡ refused.Memory };
-
-    fn from(_e: Memory) -> KeyRefused {
-        KeyRefused::Memory
-    }
-}
+/// Why a text gives no keys.
+pub type KeyRefused = Refused<BadKey>;
 
 /// Whether a character is a key: a digit, `*`, `#` or one of `A` to `D`.
 pub fn is_key(c: char) -> bool
@@ -36,48 +29,51 @@ pub fn is_key(c: char) -> bool
 /// The keys that a text spells, one word a key: by their own characters, by `star` and by `pound`,
 /// with white space between them or not.
 pub fn keys_of(alloc: Global, text: &Text) -> Result<Items<Word>, KeyRefused>
-    ensures keys { IfOk result (λ keys. AreKeys keys text.now) }
-    ensures bad { (at : ℕ) → (IsErrOf result (refused.BadKey at) ↔ IsBadKeyAt at text.now) }
+    ensures { Meets result (Spells text.now) }
 {
-    if let Some(at) = bad_key_at(text) {
-        return Err(KeyRefused::BadKey { at });
+    if let Err(bad) = count_keys(text) {
+        return Err(Refused::Fault(bad));
     }
     Ok(spelled(alloc, text.as_str().as_bytes())?)
 }
 
-/// Where a text stops to spell keys, if it does.
-fn bad_key_at(text: &Text) -> Option<u64>
-    ensures { MatchOption result ((pieces : List Piece) × Divides text.now pieces []) (λ at. IsBadKeyAt at text.now) }
+/// How many keys a text spells, each of which is one byte, or where it stops to spell keys.
+/// It takes no memory.
+pub fn count_keys(text: &Text) -> Result<u64, BadKey>
+    ensures { SpellsSoMany text.now result }
 {
     let bytes = text.as_str().as_bytes();
-    let rest = unspelled(bytes);
+    let (number, rest) = unspelled(bytes);
     if rest.is_empty() {
-        None
+        Ok(number)
     } else {
-        Some((bytes.len() - rest.len()) as u64)
+        let at = (bytes.len() - rest.len()) as u64;
+        Err(BadKey { at })
     }
 }
 
-/// What is left of a text behind its pieces.
-fn unspelled(text: &[u8]) -> &[u8]
-    ensures divides { (pieces : List Piece) × Divides text.now pieces result.now }
-    ensures stuck { BeginsNoPiece result.now }
+/// How many keys a text begins with, and what is left behind them.
+fn unspelled(text: &[u8]) -> (u64, &[u8])
+    ensures { (signs : List (Piece Sign)) × IsCut HasForm text.now signs result.1.now
+        × (result.0 ≡ length (keys_in signs)) }
 {
+    let mut number = 0;
     let mut rest = text;
-    while let Some((_, after)) = first_piece(rest) {
+    while let Some((key, after)) = first_sign(rest) {
+        number += u64::from(key.is_some());
         rest = after;
     }
-    rest
+    (number, rest)
 }
 
 /// The keys of a text up to where it stops to spell keys.
 fn spelled(alloc: Global, text: &[u8]) -> Result<Items<Word>, Memory>
-    ensures { IfOk result (λ keys. (pieces : List Piece) × (rest : List ℕ) × Divides text.now pieces rest × BeginsNoPiece rest
-        × (keys ≡ filter_map key_of pieces)) }
+    ensures { IfOk result (λ keys. (signs : List (Piece Sign)) × (rest : List ℕ)
+        × IsCut HasForm text.now signs rest × (keys ≡ keys_in signs)) }
 {
     let mut keys = Items::new(alloc);
     let mut rest = text;
-    while let Some((key, after)) = first_piece(rest) {
+    while let Some((key, after)) = first_sign(rest) {
         if let Some(key) = key {
             keys.push(word_of(alloc, key)?)?;
         }
@@ -86,10 +82,10 @@ fn spelled(alloc: Global, text: &[u8]) -> Result<Items<Word>, Memory>
     Ok(keys)
 }
 
-/// The piece that a text begins with, as the key that it stands for, and what comes after it.
-fn first_piece(text: &[u8]) -> Option<(Option<char>, &[u8])>
-    ensures piece { IfSome result (λ found. TakesPiece text.now found.0 found.1.now) }
-    ensures none { IfNone result (BeginsNoPiece text.now) }
+/// The sign that a text begins with, as the key that it stands for, and what comes after it.
+fn first_sign(text: &[u8]) -> Option<(Option<char>, &[u8])>
+    ensures sign { IfSome result (λ found. TakesSign text.now found.0 found.1.now) }
+    ensures none { IfNone result (BeginsNone HasForm text.now) }
 {
     if let Some(rest) = text.strip_prefix(b"star") {
         return Some((Some('*'), rest));
@@ -118,12 +114,17 @@ fn word_of(alloc: Global, key: char) -> Result<Word, Memory>
     Ok(Word::of(text))
 }
 
-/// No spelling of a key begins another, so a text has one list of keys, or else one place where it stops to spell keys.
+/// No spelling of a sign begins another, so a text has one list of keys, or else one place where it stops
+/// to spell keys.
 pub fn keys_are_one()
-    ensures some { (text : List ℕ) → ((keys : List (List ℕ)) × AreKeys keys text) ⊎ ((at : ℕ) × IsBadKeyAt at text) }
-    ensures apart { (this that : Piece) (more : List ℕ) → IsPiece this → IsPiece that
+    ensures some { (text : List ℕ) → ((keys : List (List ℕ)) × AreKeys keys text)
+        ⊎ ((at : ℕ) × IsBadKeyAt at text) }
+    ensures apart { (this that : Sign) (more : List ℕ) → IsSign this → IsSign that
         → spelling that ≡ spelling this ++ more → this ≡ that }
-    ensures keys { (text : List ℕ) (these those : List (List ℕ)) → AreKeys these text → AreKeys those text → these ≡ those }
-    ensures place { (text : List ℕ) (here there : ℕ) → IsBadKeyAt here text → IsBadKeyAt there text → here ≡ there }
-    ensures either { (text : List ℕ) (keys : List (List ℕ)) (at : ℕ) → AreKeys keys text → ¬ IsBadKeyAt at text }
+    ensures keys { (text : List ℕ) (these those : List (List ℕ)) → AreKeys these text → AreKeys those text
+        → these ≡ those }
+    ensures place { (text : List ℕ) (here there : ℕ) → IsBadKeyAt here text → IsBadKeyAt there text
+        → here ≡ there }
+    ensures either { (text : List ℕ) (keys : List (List ℕ)) (at : ℕ) → AreKeys keys text
+        → ¬ IsBadKeyAt at text }
 {}

@@ -1,8 +1,7 @@
-use crate::{KeyRefused, keys_of, words_of};
-use sqlite_items::Items;
+use crate::{keys_of, words_of, words_of_all};
 use std::alloc::{AllocError, Global};
 use std::test::Fail;
-use vg_base::{Text, Word};
+use vg_base::{Items, Refused, Text, Word};
 
 fn joined(alloc: Global, words: &Items<Word>) -> Result<String, AllocError> {
     let mut line = String::new(alloc);
@@ -62,9 +61,23 @@ fn bad_keys_are_placed_by_characters(rt: HostRuntime) -> Result<(), Fail> {
     ];
     for (text, want) in rows {
         match keys_of(rt.alloc(), &Text::of(rt.alloc(), text)?) {
-            Err(KeyRefused::BadKey { at }) => assert_eq!(rt; at, want, "keys of {text:?}"),
+            Err(Refused::Fault(bad)) => assert_eq!(rt; bad.at, want, "keys of {text:?}"),
             _ => assert!(rt; false, "keys of {text:?}"),
         }
     }
+    Ok(())
+}
+
+#[test]
+fn words_of_several_texts_follow_one_another(rt: HostRuntime) -> Result<(), Fail> {
+    let alloc = rt.alloc();
+    let texts = vec![in alloc;
+        Text::of(alloc, " two big")?,
+        Text::of(alloc, "")?,
+        Text::of(alloc, "pizzas")?,
+    ]?;
+    let words = words_of_all(alloc, texts.as_slice())?;
+    let line = joined(alloc, &words)?;
+    assert_eq!(rt; line.as_str(), "two|big|pizzas|");
     Ok(())
 }

@@ -8,7 +8,7 @@ use Rattle.std.proofs.lemmas.Slice.Eq.{starts_is, bytes_eq-Decides}
 use Rattle.std.specs.List.{starts_with}
 use Rattle.std.specs.Str.{bytes_eq, IsUtf8}
 use Rattle.uri_links.specs.Split.{has, before, from, before_last, slash}
-use Rattle.uri_links.specs.Kinds.{IsPlain, or_slash, behind_slash}
+use Rattle.uri_links.specs.code.Kinds.{IsPlain, or_slash, behind_slash}
 use Rattle.uri_links.specs.Dots.{Buffers, first_segment, after_segment, step, steps}
 use Rattle.uri_links.proofs.SplitLemmas.{before-none, from-none, before-found, from-found, parted, rooted-from}
 use Rattle.uri_links.specs.Parts.{IsEmptyOrRooted}

@@ -11,7 +11,7 @@ use Rattle.uri_links.specs.declared.fault.UriFault.TheVariants.{NotAbsolute}
 use Rattle.uri_links.specs.Split.{has, from, before_last, slash}
 use Rattle.uri_links.specs.Parts.{Parts, parts, recompose, scheme_text, authority_text, query_text, fragment_text, has_authority, path_of}
 use Rattle.uri_links.specs.Allowed.{are_allowed, is_absent_or, is_reference}
-use Rattle.uri_links.specs.Kinds.{IsPlain, or_slash, behind_slash}
+use Rattle.uri_links.specs.code.Kinds.{IsPlain, or_slash, behind_slash}
 use Rattle.uri_links.specs.Dots.{Buffers, first_segment, after_segment, remove_dot_segments}
 use Rattle.uri_links.specs.Faults.{reading_fault, key_fault}
 use Rattle.uri_links.specs.Resolution.{key}

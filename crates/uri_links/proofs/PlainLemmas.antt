@@ -6,7 +6,7 @@ use Rattle.std.proofs.lemmas.Bool.{cases_Bool, false≢true}
 use Rattle.std.proofs.lemmas.Slice.Eq.{bytes_eq-Decides}
 use Rattle.uri_links.specs.Split.{has, before, from, before_last, slash}
 use Rattle.uri_links.specs.Parts.{IsEmptyOrRooted}
-use Rattle.uri_links.specs.Kinds.{IsPlain, or_slash, behind_slash}
+use Rattle.uri_links.specs.code.Kinds.{IsPlain, or_slash, behind_slash}
 use Rattle.uri_links.specs.Dots.{Buffers, first_segment, after_segment, remove_dot_segments}
 use Rattle.uri_links.proofs.SplitLemmas.{has-before, has-inside, before-past, from-past, before-split, from-split}
 use Rattle.uri_links.proofs.DotsLemmas.{removed, removed-empty, segment_whole, after_rooted, bare_goes, here_goes, up_goes, plain_goes, plain}

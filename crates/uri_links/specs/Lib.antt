@@ -1,8 +1,8 @@
+pub mod Split
+pub mod Parts
 pub mod Allowed
 pub mod Dots
-pub mod Faults
-pub mod Kinds
-pub mod Parts
 pub mod Resolution
-pub mod Seen
-pub mod Split
+pub mod Faults
+-- for private contracts alone
+pub mod code

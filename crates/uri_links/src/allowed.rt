@@ -2,7 +2,7 @@
 ghost use Rattle.std.specs.Prelude.{◌≡◌};
 ghost use Rattle.std.specs.Option.{option_copied};
 ghost use Rattle.std.specs.List.{list_all};
-ghost use Rattle.uri_links.specs.Seen.{seen};
+ghost use Rattle.uri_links.specs.code.Seen.{seen};
 ghost use Rattle.uri_links.specs.Allowed.{are_good, is_scheme, is_scheme_character, is_allowed, begins_hexadecimal, are_allowed, is_absent_or, is_reference};
 
 use crate::parts::{Parts, split};

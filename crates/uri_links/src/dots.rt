@@ -2,7 +2,7 @@
 ghost use Rattle.std.specs.Prelude.{◌≡◌, IfOk};
 ghost use Rattle.std.specs.String.{string_bytes};
 ghost use Rattle.uri_links.specs.Split.{before_last, slash};
-ghost use Rattle.uri_links.specs.Kinds.{IsKind, or_slash, behind_slash};
+ghost use Rattle.uri_links.specs.code.Kinds.{IsKind, or_slash, behind_slash};
 ghost use Rattle.uri_links.specs.Dots.{first_segment, after_segment, remove_dot_segments};
 
 use crate::parts::split_before_slash;

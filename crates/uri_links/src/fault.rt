@@ -1,17 +1,16 @@
 //! Why a reference is refused.
 ghost use Rattle.std.specs.Prelude.{◌≡◌};
 ghost use Rattle.uri_links.specs.Faults.{fault_number, fault_name};
-ghost use Rattle.uri_links.specs.declared.fault.UriRefused.TheVariants as refused;
 
-use thiserror::Error;
-use vg_base::Memory;
+use std::fmt;
+use vg_base::Refused;
 
 /// What is wrong with a reference, in the order of the faults' numbers.
 #[derive(Clone, Copy, Debug, PartialEq, Eq)]
 pub enum UriFault {
     /// The text is no reference, or has a character that its part may not have.
     NotUri = 1,
-    /// The text has more than 2,048 bytes.
+    /// The text has more bytes than a reference may have.
     UriLong,
     /// The scheme is missing, or a fragment stands.
     NotAbsolute,
@@ -36,18 +35,12 @@ impl UriFault {
     }
 }
 
-#[derive(Debug, Drop, Error)]
-pub enum UriRefused {
-    #[error("{}", .0.name())]
-    Fault(UriFault),
-    #[error("out of memory")]
-    Memory,
-}
-
-impl From<Memory> for UriRefused {
-    ghost from_gives = { λ _ e. e ≡ refused.Memory };
-
-    fn from(_e: Memory) -> UriRefused {
-        UriRefused::Memory
+/// The fault's name.
+impl fmt::Display for UriFault {
+    fn fmt<W: fmt::Write>(&self, f: &mut fmt::Formatter<W>) -> fmt::Result {
+        f.write_str(self.name())
     }
 }
+
+/// Why a text gives no reference.
+pub type UriRefused = Refused<UriFault>;

@@ -12,7 +12,7 @@ mod uri;
 pub use fault::{UriFault, UriRefused};
 pub use laws::{dots_are_gone, keys_are_keys, parts_are_one, schemes_ignore_bases};
 pub use resolution::{resolve, split_fragment};
-pub use uri::{LONGEST_URI, Uri};
+pub use uri::Uri;
 
 #[cfg(test)]
 mod tests;

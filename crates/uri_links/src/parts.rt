@@ -4,7 +4,7 @@ ghost use Rattle.std.specs.Option.{option_copied};
 ghost use Rattle.std.specs.String.{string_bytes};
 ghost use Rattle.uri_links.specs.Split.{before, from, after, slash};
 ghost use Rattle.uri_links.specs.Parts.{parts, recompose, scheme_of, after_scheme, authority_of, path_of};
-ghost use Rattle.uri_links.specs.Seen.{seen};
+ghost use Rattle.uri_links.specs.code.Seen.{seen};
 
 use std::alloc::{AllocError, Global};
 

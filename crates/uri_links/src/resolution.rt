@@ -4,7 +4,7 @@ ghost use Rattle.std.specs.String.{string_bytes};
 ghost use Rattle.uri_links.specs.Allowed.{are_good};
 ghost use Rattle.uri_links.specs.Parts.{parts, recompose};
 ghost use Rattle.uri_links.specs.Resolution.{merge, resolve, target, target_path};
-ghost use Rattle.uri_links.specs.Seen.{seen};
+ghost use Rattle.uri_links.specs.code.Seen.{seen};
 ghost use Rattle.uri_links.specs.Split.{before, up_to_last, slash, hash};
 
 use crate::parts::{Parts, split, split_at_mark};

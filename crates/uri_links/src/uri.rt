@@ -1,14 +1,12 @@
 //! References: a text, as it stands or as a key.
-ghost use Rattle.std.specs.Prelude.{◌≡◌, ◌↔◌, true, false, is_some, IfOk, IsSome, None, Some};
-ghost use Rattle.std.specs.Result.{IsErrOf};
-ghost use Rattle.uri_links.specs.declared.fault.UriFault.{UriFault};
-ghost use Rattle.uri_links.specs.declared.fault.UriRefused.TheVariants as refused;
+ghost use Rattle.std.specs.Prelude.{◌≡◌, true, is_some, IfOk, IsSome, None};
+ghost use Rattle.vg_base.specs.Refusals.{Gives};
 ghost use Rattle.uri_links.specs.Allowed.{are_good, is_reference};
 ghost use Rattle.uri_links.specs.Dots.{remove_dot_segments};
-ghost use Rattle.uri_links.specs.Faults.{reading_fault, key_fault};
+ghost use Rattle.uri_links.specs.Faults.{reading_fault, key_fault, unless};
 ghost use Rattle.uri_links.specs.Parts.{parts, recompose};
 ghost use Rattle.uri_links.specs.Resolution.{is_absolute, key};
-ghost use Rattle.uri_links.specs.Seen.{seen};
+ghost use Rattle.uri_links.specs.code.Seen.{seen};
 
 use crate::allowed::is_reference;
 use crate::dots::without_dot_segments;
@@ -16,10 +14,8 @@ use crate::fault::{UriFault, UriRefused};
 use crate::parts::{Parts, joined, split};
 use std::alloc::Global;
 use std::marker::Model;
-use vg_base::{Memory, Text};
-
-/// The most bytes of a reference that is read.
-pub const LONGEST_URI: usize = 2048;
+use vg_base::limits::URI_BYTES;
+use vg_base::{Memory, Refused, Text};
 
 /// A reference: a URI, or one that has to be resolved (RFC 3986 section 4.1). It is its text; what is resolved
 /// may be longer than what is read.
@@ -42,25 +38,24 @@ impl Model for Uri {
 }
 
 impl Uri {
+    /// Reads a reference.
     pub fn read(alloc: Global, text: &Text) -> Result<Uri, UriRefused>
-        ensures refused { (fault : UriFault) → (IsErrOf result (refused.Fault fault) ↔ (reading_fault text.now ≡ Some fault)) }
-        ensures uri { IfOk result (λ uri. uri ≡ text.now) }
+        ensures { Gives result (unless (reading_fault text.now) text.now) }
     {
         if let Some(fault) = reading_fault(text) {
-            return Err(UriRefused::Fault(fault));
+            return Err(Refused::Fault(fault));
         }
         Ok(made(alloc, text.as_str())?)
     }
 
     /// Reads the key of a document: a URI with a scheme and without a fragment, whose dot segments are taken out.
     pub fn read_key(alloc: Global, text: &Text) -> Result<Uri, UriRefused>
-        ensures refused { (fault : UriFault) → (IsErrOf result (refused.Fault fault) ↔ (key_fault text.now ≡ Some fault)) }
-        ensures key { IfOk result (λ uri. uri ≡ key text.now) }
+        ensures answer { Gives result (unless (key_fault text.now) (key text.now)) }
         ensures absolute { IfOk result (λ uri. is_absolute uri ≡ true) }
         ensures readable { IfOk result (λ uri. reading_fault uri ≡ None) }
     {
         if let Some(fault) = key_fault(text) {
-            return Err(UriRefused::Fault(fault));
+            return Err(Refused::Fault(fault));
         }
         Ok(without_dots(alloc, &split(text.as_str()))?)
     }
@@ -100,7 +95,7 @@ fn reading_fault(text: &Text) -> Option<UriFault>
     ensures { result ≡ reading_fault text.now }
 {
     let text = text.as_str();
-    if text.len() > LONGEST_URI {
+    if text.len() as u64 > URI_BYTES {
         Some(UriFault::UriLong)
     } else if is_reference(text) {
         None
@@ -144,8 +139,9 @@ pub(crate) fn put_together(alloc: Global, parts: &Parts) -> Result<Uri, Memory>
     requires scheme { IsSome (seen parts.now).scheme }
     ensures { IfOk result (λ uri. uri ≡ recompose (seen parts.now)) }
 {
-    let text = joined(alloc, parts)?;
-    made(alloc, text.as_str())
+    Ok(Uri {
+        text: Text::from_string(joined(alloc, parts)?),
+    })
 }
 
 /// The parts put together, with the path's dot segments taken out.

@@ -1,9 +1,15 @@
-use Rattle.std.proofs.Common.{◌++◌, ◌∷◌, []}
-use Rattle.token_forms.proofs.KeyLemmas.{divides_more}
+use Rattle.std.proofs.Common.{◌≡◌, ℕ, ◌+◌, Option, Some, None, ap, refl, sym, ◌∙◌, subst}
+use Rattle.std.specs.Option.{is_some}
+use mir.Val.{bool_byte}
+use Rattle.token_forms.proofs.KeyLemmas.{SoMany, flagged, many_more}
 use Rattle.token_forms.proofs.keys.unspelled.Goals as goal
 
-pub loop-after-preserved : goal.loop-after-preserved
-loop-after-preserved c =
-    let s = c.loop-after.invariant in
-    let t = c.in-Some.ensures.piece in
-    (s.0 ++ t.piece ∷ [], divides_more c.args.text.now s.0 c.loop-after.rest.now c.in-Some.field-0-0 c.in-Some.after.now s.1 t)
+is_flagged : (key : Option ℕ) → flagged key ≡ bool_byte (is_some key)
+is_flagged None = refl
+is_flagged (Some key) = refl
+
+pub loop-key-preserved : goal.loop-key-preserved
+loop-key-preserved c =
+    let count = is_flagged c.in-Some.key ∙ (ap bool_byte (sym c.is_some.ensures) ∙ sym c.from-number.ensures) in
+    subst (λ n. SoMany c.args.text.now (c.loop-key.number + n) c.in-Some.after.now) count
+    (many_more c.args.text.now c.loop-key.number c.loop-key.rest.now c.in-Some.after.now c.in-Some.key c.loop-key.invariant c.in-Some.ensures.sign)

@@ -1,7 +1,7 @@
 use Rattle.std.proofs.Common.{◌≡◌, ◌≢◌, ℕ, cond, List, [], ◌∷◌, Option, Some, None, Bor, MatchOption, refl, ap, sym, ◌∙◌, unwrap_or, lit<}
 use Rattle.std.proofs.lemmas.Str.Pattern.{strip_prefix_char}
 use Rattle.uri_links.specs.Split.{slash}
-use Rattle.uri_links.specs.Kinds.{behind_slash}
+use Rattle.uri_links.specs.code.Kinds.{behind_slash}
 use Rattle.std.proofs.lemmas.Bool.{ne_eqb}
 use Rattle.uri_links.proofs.dots.behind_slash.Goals as goal
 

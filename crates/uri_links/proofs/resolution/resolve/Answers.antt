@@ -3,7 +3,7 @@ use Rattle.std.proofs.lemmas.Result.{IfOk-weaker}
 use Rattle.uri_links.specs.Allowed.{are_good, is_reference}
 use Rattle.uri_links.specs.Parts.{parts, recompose}
 use Rattle.uri_links.specs.Resolution.{resolve, target}
-use Rattle.uri_links.specs.Seen.{seen}
+use Rattle.uri_links.specs.code.Seen.{seen}
 use Rattle.uri_links.proofs.ReferenceLemmas.{reference_good, target_good, recompose_scheme}
 use Rattle.uri_links.proofs.resolution.resolve.Goals as goal
 

@@ -2,7 +2,7 @@ use Rattle.std.proofs.Common.{List, ℕ, ap, ◌∙◌}
 use Rattle.uri_links.specs.Allowed.{are_good}
 use Rattle.uri_links.specs.Parts.{Parts}
 use Rattle.uri_links.specs.Resolution.{target_path}
-use Rattle.uri_links.specs.Seen.{seen}
+use Rattle.uri_links.specs.code.Seen.{seen}
 use Rattle.uri_links.proofs.ReferenceLemmas.{IsGood, good_from, good_to, target_path_allowed}
 use Rattle.uri_links.proofs.resolution.target.Goals as goal
 

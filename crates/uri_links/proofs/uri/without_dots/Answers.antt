@@ -2,7 +2,7 @@ use Rattle.std.proofs.Common.{List, ℕ, ap, ◌∙◌}
 use Rattle.uri_links.specs.Dots.{remove_dot_segments}
 use Rattle.uri_links.specs.Parts.{Parts}
 use Rattle.uri_links.specs.Allowed.{are_good}
-use Rattle.uri_links.specs.Seen.{seen}
+use Rattle.uri_links.specs.code.Seen.{seen}
 use Rattle.uri_links.proofs.ReferenceLemmas.{good_from, good_to, without_dots_good}
 use Rattle.uri_links.proofs.uri.without_dots.Goals as goal
 

@@ -1,7 +1,7 @@
-use Rattle.std.proofs.Common.{◌≡◌, true, IsSome, ap, sym, ◌∙◌, subst}
+use Rattle.std.proofs.Common.{◌≡◌, true, IsSome, Ok, ap, sym, ◌∙◌, subst}
 use Rattle.uri_links.specs.Allowed.{are_good, is_reference}
 use Rattle.uri_links.specs.Dots.{remove_dot_segments}
-use Rattle.uri_links.specs.Faults.{reading_fault}
+use Rattle.uri_links.specs.Faults.{reading_fault, unless}
 use Rattle.uri_links.specs.Parts.{Parts, parts, recompose}
 use Rattle.uri_links.specs.Resolution.{is_absolute, key}
 use Rattle.uri_links.proofs.FaultLemmas.{reading_none, key_none}
@@ -22,12 +22,13 @@ without_dots-requires-clause-scheme c =
     let same = bytes_same c.args.text.now c.as_str.result.now c.as_str.ensures.bytes (reading_none c.args.text.now none.0) in
     subst (λ (p : Parts). IsSome p.scheme) (sym (c.split.ensures ∙ ap parts same)) (absolute_scheme c.args.text.now none.1)
 
-pub returns-clause-key : goal.returns-clause-key
+pub returns-clause-answer : goal.returns-clause-answer
 unfolding key
-returns-clause-key c =
-    let none = key_none c.args.text.now (sym c.in_default.ensures) in
-    let same = bytes_same c.args.text.now c.as_str.result.now c.as_str.ensures.bytes (reading_none c.args.text.now none.0) in
-    c.in_ok-without_dots.ensures ∙ ap (λ (p : Parts). let q : Parts = record p { path = remove_dot_segments p.path } in recompose q) (c.split.ensures ∙ ap parts same)
+returns-clause-answer c =
+    let fits = sym c.in_default.ensures in
+    let same = bytes_same c.args.text.now c.as_str.result.now c.as_str.ensures.bytes (reading_none c.args.text.now (key_none c.args.text.now fits).0) in
+    ap (λ o. unless o (key c.args.text.now)) fits
+    ∙ ap Ok (sym (c.in_ok-without_dots.ensures ∙ ap (λ (p : Parts). let q : Parts = record p { path = remove_dot_segments p.path } in recompose q) (c.split.ensures ∙ ap parts same)))
 
 pub returns-clause-absolute : goal.returns-clause-absolute
 unfolding key
