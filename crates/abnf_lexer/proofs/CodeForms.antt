@@ -5,7 +5,7 @@ use Rattle.std.proofs.lemmas.Bool.{and_parts, eqb-true}
 use Rattle.std.proofs.lemmas.Bool.Decides.{nat_tests}
 use Rattle.abnf_lexer.specs.Classes.{is_letter_or_digit}
 use Rattle.abnf_lexer.specs.Codes.{IsSubtag, IsCode}
-use Rattle.abnf_lexer.specs.Front.{is_allowed, is_part, goes_on, is_code}
+use Rattle.abnf_lexer.specs.code.Front.{is_allowed, is_part, goes_on, is_code}
 
 part_bounds : (len : ℕ) → is_part len ≡ true → (1 ≤ len) × (len ≤ 8)
 part_bounds len e = (grind (arith, nat_tests), grind (arith, nat_tests))

@@ -1,11 +1,8 @@
--- The first character that a document may not have is the first of all those faults.
-use Rattle.std.proofs.Common.{◌≡◌, ℕ, zero, suc, ◌+◌, ◌<◌, Bool, true, false, not, cond, ◌==◌, List, [], ◌∷◌, ◌++◌, length, get_or, take, drop, Option, Some, None, is_gt, refl, sym, ap, subst, arith, append_assoc}
-use Rattle.std.specs.Prelude.{All, Contains}
-use Rattle.std.specs.List.{prefix_len}
-use Rattle.std.specs.Cmp.{nat_cmp_total, tied_itself}
-use Rattle.std.specs.Ordering.{nat_cmp, ordering_then}
-use Rattle.std.specs.declared.cmp.Ordering.{Ordering}
-use Rattle.std.specs.declared.cmp.Ordering.TheVariants.{Less, Equal, Greater}
+-- Bad characters: of several fronts together (`bad_characters-append`), and the first of all where the walk stops at it (`first_bad`).
+use Rattle.std.proofs.Common.{◌≡◌, ℕ, zero, suc, ◌+◌, Bool, true, false, not, cond, List, [], ◌∷◌, ◌++◌, length, take, Option, Some, None, refl, sym, ap, subst, ◌∙◌, arith, append_assoc}
+use Rattle.std.specs.Prelude.{All, Contains, nat_lt}
+use Rattle.std.specs.List.{prefix_len, list_all}
+use Rattle.std.proofs.lemmas.Bool.{and_parts}
 use Rattle.std.proofs.lemmas.Bool.Decides.{nat_tests}
 use Rattle.std.proofs.lemmas.List.{append-nil}
 use Rattle.std.proofs.lemmas.List.Elements.{All-append, Contains-append_left}
@@ -14,56 +11,41 @@ use Rattle.vg_base.specs.declared.doc_fault.DocKind.TheVariants.{BadCharacter}
 use Rattle.vg_base.specs.Characters.{is_char}
 use Rattle.vg_base.specs.Faults.{doc_fault_order}
 use Rattle.vg_base.specs.First.{IsFirst}
-use Rattle.vg_base.specs.Places.{place_order, place_after}
-use Rattle.vg_base.proofs.PlacesRise.{places-not_back}
-use Rattle.abnf_lexer.specs.Classes.{is_empty}
 use Rattle.abnf_lexer.specs.Faults.{told, bad_characters}
+use Rattle.abnf_lexer.proofs.Later.{fault, NotBefore, bad_later, settled_here}
 
-abbrev bad : List ℕ → DocFault
-bad front = record { place = place_after front; kind = BadCharacter }
+pub bad_characters-append : (front xs ys : List ℕ) → bad_characters front (xs ++ ys) ≡ bad_characters front xs ++ bad_characters (front ++ xs) ys
+bad_characters-append front [] ys = ap (λ (l : List ℕ). bad_characters l ys) (sym (append-nil front))
+bad_characters-append front (c ∷ xs) ys =
+    ap (λ (fs : List DocFault). told (not (is_char c)) front BadCharacter ++ fs)
+    (bad_characters-append (front ++ c ∷ []) xs ys ∙ ap (λ (l : List ℕ). bad_characters (front ++ c ∷ []) xs ++ bad_characters l ys) (append_assoc front (c ∷ []) xs))
+    ∙ sym (append_assoc (told (not (is_char c)) front BadCharacter) (bad_characters (front ++ c ∷ []) xs) (bad_characters (front ++ c ∷ xs) ys))
 
--- no fault of this kind lies before that of a shorter front
-not_gt : (o : Ordering) → is_gt o ≡ false → is_gt (ordering_then o (nat_cmp 4 4)) ≡ false
-not_gt Less h = refl
-not_gt Equal h = ap is_gt (tied_itself nat_cmp_total 4)
-not_gt Greater h = h
+-- characters that a document may have
+pub none_bad : (front xs : List ℕ) → list_all is_char xs ≡ true → bad_characters front xs ≡ []
+none_bad front [] e = refl
+none_bad front (c ∷ xs) e =
+    let both = and_parts (is_char c) (list_all is_char xs) e in
+    (λ i. told (not (both.0 i)) front BadCharacter ++ none_bad (front ++ c ∷ []) xs both.1 i)
 
-not_before : (front more : List ℕ) → is_gt (doc_fault_order (bad front) (bad (front ++ more))) ≡ false
-not_before front more = not_gt (place_order (place_after front) (place_after (front ++ more))) (places-not_back front more)
+pub contains_one : (f g : DocFault) → Contains (g ∷ []) f → f ≡ g
+contains_one f g (zero, h, e) = sym e
+contains_one f g (suc k, h, e) = absurd (omega arith)
 
-abbrev NotBefore : List ℕ → DocFault → Type 0
-NotBefore front g = is_gt (doc_fault_order (bad front) g) ≡ false
+-- the first of one fault, before others that are no sooner
+pub before_others : (f : DocFault) (later : List DocFault) (r : Option DocFault) → All (NotBefore f) later → IsFirst doc_fault_order (f ∷ []) r → IsFirst doc_fault_order (f ∷ later) r
+before_others f later None all h = absurd cc
+before_others f later (Some g) all h =
+    (Contains-append_left (f ∷ []) later g h.0, All-append (NotBefore g) (f ∷ []) later h.1 (subst (λ (x : DocFault). All (NotBefore x) later) (sym (contains_one g f h.0)) all))
 
-told_later : (front more : List ℕ) (b : Bool) → All (NotBefore front) (told b (front ++ more) BadCharacter)
-told_later front more false = λ k d within. absurd (omega arith)
-told_later front more true = λ k d within. at k d within
-  where
-    at : (k : ℕ) (d : DocFault) → k < 1 → NotBefore front (get_or (told true (front ++ more) BadCharacter) k d)
-    at zero d h = not_before front more
-    at (suc k) d h = absurd (omega arith)
-
-all_later : (front more rest : List ℕ) → All (NotBefore front) (bad_characters (front ++ more) rest)
-all_later front more [] = λ k d within. absurd (omega arith)
-all_later front more (c ∷ rest) =
-    All-append (NotBefore front) (told (not (is_char c)) (front ++ more) BadCharacter) (bad_characters ((front ++ more) ++ c ∷ []) rest)
-    (told_later front more (not (is_char c)))
-    (subst (λ (xs : List ℕ). All (NotBefore front) (bad_characters xs rest)) (sym (append_assoc front more (c ∷ []))) (all_later front (more ++ c ∷ []) rest))
+abbrev Stop : (front text : List ℕ) (n : ℕ) → List DocFault
+Stop front text n = told (nat_lt n (length text)) (front ++ take n text) BadCharacter
 
 one : (n : ℕ) → 1 + n ≡ suc n
 one n = omega arith
 
-contains_one : (f g : DocFault) → Contains (g ∷ []) f → f ≡ g
-contains_one f g (zero, h, e) = sym e
-contains_one f g (suc k, h, e) = absurd (omega arith)
-
--- where the front ends at a character that is not allowed, that is the first
-here : (front : List ℕ) (later : List DocFault) (r : Option DocFault) → All (NotBefore front) later → IsFirst doc_fault_order (bad front ∷ []) r → IsFirst doc_fault_order (bad front ∷ later) r
-here front later None all h = absurd cc
-here front later (Some f) all h =
-    (Contains-append_left (bad front ∷ []) later f h.0, All-append (λ g. is_gt (doc_fault_order f g) ≡ false) (bad front ∷ []) later h.1 (subst (λ (x : DocFault). All (λ g. is_gt (doc_fault_order x g) ≡ false) later) (sym (contains_one f (bad front) h.0)) all))
-
-abbrev Stop : (front text : List ℕ) (n : ℕ) → List DocFault
-Stop front text n = told (not (is_empty (drop n text))) (front ++ take n text) BadCharacter
+longer : (m n : ℕ) → nat_lt (suc m) (suc n) ≡ nat_lt m n
+longer m n = grind (arith, nat_tests)
 
 -- one character before a text whose first fault is known
 one_more : (front cs : List ℕ) (c : ℕ) (r : Option DocFault) (b : Bool)
@@ -71,17 +53,19 @@ one_more : (front cs : List ℕ) (c : ℕ) (r : Option DocFault) (b : Bool)
     → IsFirst doc_fault_order (Stop front (c ∷ cs) (cond b (1 + prefix_len is_char cs) 0)) r → IsFirst doc_fault_order (told (not b) front BadCharacter ++ bad_characters (front ++ c ∷ []) cs) r
 one_more front cs c r true others h =
     let n = prefix_len is_char cs in
-    others
-    (subst (λ (xs : List ℕ). IsFirst doc_fault_order (told (not (is_empty (drop n cs))) xs BadCharacter) r) (sym (append_assoc front (c ∷ []) (take n cs)))
-    (subst (λ m. IsFirst doc_fault_order (Stop front (c ∷ cs) m) r) (one n) h))
+    let at_n : IsFirst doc_fault_order (Stop front (c ∷ cs) (suc n)) r = subst (λ m. IsFirst doc_fault_order (Stop front (c ∷ cs) m) r) (one n) h in
+    let by_n : IsFirst doc_fault_order (told (nat_lt n (length cs)) (front ++ c ∷ take n cs) BadCharacter) r = subst (λ b. IsFirst doc_fault_order (told b (front ++ c ∷ take n cs) BadCharacter) r) (longer n (length cs)) at_n in
+    others (subst (λ (xs : List ℕ). IsFirst doc_fault_order (told (nat_lt n (length cs)) xs BadCharacter) r) (sym (append_assoc front (c ∷ []) (take n cs))) by_n)
 one_more front cs c r false others h =
-    here front (bad_characters (front ++ c ∷ []) cs) r (all_later front (c ∷ []) cs)
-    (subst (λ (xs : List ℕ). IsFirst doc_fault_order (told true xs BadCharacter) r) (append-nil front) h)
+    before_others (fault front BadCharacter) (bad_characters (front ++ c ∷ []) cs) r (bad_later front (c ∷ []) cs (fault front BadCharacter) (settled_here front))
+    (subst (λ (xs : List ℕ). IsFirst doc_fault_order (told true xs BadCharacter) r) (append-nil front) (subst (λ b. IsFirst doc_fault_order (told b (front ++ []) BadCharacter) r) (some (length cs)) h))
+  where
+    some : (n : ℕ) → nat_lt 0 (suc n) ≡ true
+    some n = grind (arith, nat_tests)
 
 pub first_bad : (front text : List ℕ) (r : Option DocFault) → IsFirst doc_fault_order (Stop front text (prefix_len is_char text)) r → IsFirst doc_fault_order (bad_characters front text) r
-first_bad front [] r h = h
+first_bad front [] r h = subst (λ b. IsFirst doc_fault_order (told b (front ++ []) BadCharacter) r) none h
+  where
+    none : nat_lt 0 0 ≡ false
+    none = refl
 first_bad front (c ∷ cs) r h = one_more front cs c r (is_char c) (first_bad (front ++ c ∷ []) cs r) h
-
-pub empty_is : (xs : List ℕ) → (length xs == 0) ≡ is_empty xs
-empty_is [] = refl
-empty_is (x ∷ xs) = grind (arith, nat_tests)

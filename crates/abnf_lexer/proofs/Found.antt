@@ -1,7 +1,7 @@
 -- Each form is found at the front of a text.
 use Rattle.std.proofs.Common.{◌≡◌, ℕ, ◌+◌, ◌≤◌, Bool, true, false, not, ◌||◌, ◌==◌, inl, inr, List, [], ◌∷◌, ◌++◌, length, take, drop, codes, nat_eq, refl, sym, ap, subst, ◌∙◌, arith, append_assoc, length-append}
 use Rattle.std.specs.List.{prefix_len, starts_with, list_all}
-use Rattle.std.proofs.lemmas.Bool.{eqb-true, and_parts}
+use Rattle.std.proofs.lemmas.Bool.{eqb-true, and_parts, or_right, both_ways}
 use Rattle.std.proofs.lemmas.Bool.Decides.{nat_tests}
 use Rattle.std.proofs.lemmas.List.{take_at}
 use Rattle.vg_base.specs.Characters.{is_space, is_name_start, is_name}
@@ -9,13 +9,15 @@ use Rattle.vg_base.specs.Places.{is_within_line}
 use Rattle.abnf_lexer.specs.declared.lexemes.PieceKind.{PieceKind}
 use Rattle.abnf_lexer.specs.declared.lexemes.PieceKind.TheVariants.{WhiteSpace, LineComment, BlockComment, Lexeme}
 use Rattle.abnf_lexer.specs.declared.lexemes.LexKind.TheVariants as lex
-use Rattle.abnf_lexer.specs.Classes.{begins, is_sign, is_special, is_bare, is_code_character}
-use Rattle.abnf_lexer.specs.Forms.{IsRun, IsEnclosed, IsAngled, IsBare, IsWeight, IsLanguage, IsTag, IsWhiteSpace, HasForm}
-use Rattle.abnf_lexer.specs.Front.{is_code, cut, cut_at, enclosed, angled, dollar, slash, language, tag, front}
-use Rattle.abnf_lexer.proofs.Runs.{true_not, or_right, run_len}
-use Rattle.abnf_lexer.proofs.Closings.{begins_so, so_begins, front_of}
+use Rattle.abnf_lexer.specs.Classes.{is_sign, is_special, is_bare, is_code_character}
+use Rattle.abnf_lexer.specs.Forms.{IsAngled, IsBare, IsWeight, IsLanguage, IsTag, HasForm}
+use Rattle.abnf_lexer.specs.code.Front.{is_code, cut, cut_at, angled, dollar, slash, language, tag, front}
+use Rattle.vg_base.specs.Runs.{begins, IsRun, IsEnclosed, IsWhiteSpace, enclosed_len}
+use Rattle.vg_base.proofs.LongestRuns.{run_len}
+use Rattle.vg_base.proofs.Closings.{begins_so, so_begins, front_of}
 use Rattle.abnf_lexer.proofs.CodeForms.{code_read}
-use Rattle.abnf_lexer.proofs.Enclosures.{enclosed_found, angled_found}
+use Rattle.vg_base.proofs.Enclosures.{enclosed_found}
+use Rattle.abnf_lexer.proofs.Angles.{angled_found}
 
 same_cut : (kind : PieceKind) (m n : ℕ) → m ≡ n → cut kind m ≡ cut kind n
 same_cut kind m n e = ap (cut kind) e
@@ -28,7 +30,8 @@ space_not_bare c e = ap (λ b. not (b || is_special c)) e
 sign_not_bare : (c : ℕ) → is_sign c ≡ true → is_bare c ≡ false
 sign_not_bare c e = ap not (or_right (is_space c) (is_special c) (rw e refl))
 
-sign_not_space : (c : ℕ) → is_sign c ≡ true → is_space c ≡ false
+-- signs are no white space
+pub sign_not_space : (c : ℕ) → is_sign c ≡ true → is_space c ≡ false
 sign_not_space c e = grind (arith, nat_tests)
 
 start_not_angle : (c : ℕ) → is_name_start c ≡ true → (c == 60) ≡ false
@@ -44,9 +47,9 @@ start_not_angle c e = by_case (c == 60) refl
 -- ---- by the first characters
 
 module _ (text tail : List ℕ) where
-  at_quote : text ≡ 34 ∷ tail → front text ≡ cut_at (Lexeme lex.Quoted) (enclosed 1 (codes "\"") text)
+  at_quote : text ≡ 34 ∷ tail → front text ≡ cut_at (Lexeme lex.Quoted) (enclosed_len 1 (codes "\"") text)
   unfolding front
-  at_quote e = subst (λ (t : List ℕ). front t ≡ cut_at (Lexeme lex.Quoted) (enclosed 1 (codes "\"") t)) (sym e) refl
+  at_quote e = subst (λ (t : List ℕ). front t ≡ cut_at (Lexeme lex.Quoted) (enclosed_len 1 (codes "\"") t)) (sym e) refl
 
   at_angle : text ≡ 60 ∷ tail → front text ≡ cut_at (Lexeme lex.Angle) (angled 1 text)
   unfolding front
@@ -56,9 +59,9 @@ module _ (text tail : List ℕ) where
   unfolding front
   at_reference e = subst (λ (t : List ℕ). front t ≡ cut_at (Lexeme lex.UriRef) (angled 2 t)) (sym e) refl
 
-  at_block : text ≡ 47 ∷ 42 ∷ tail → front text ≡ cut_at BlockComment (enclosed 2 (codes "*/") text)
+  at_block : text ≡ 47 ∷ 42 ∷ tail → front text ≡ cut_at BlockComment (enclosed_len 2 (codes "*/") text)
   unfolding front
-  at_block e = subst (λ (t : List ℕ). front t ≡ cut_at BlockComment (enclosed 2 (codes "*/") t)) (sym e) refl
+  at_block e = subst (λ (t : List ℕ). front t ≡ cut_at BlockComment (enclosed_len 2 (codes "*/") t)) (sym e) refl
 
   at_slash : text ≡ 47 ∷ tail → front text ≡ slash text
   unfolding front
@@ -153,7 +156,7 @@ long_begun slice rest start long e = by_case (starts_with nat_eq (slice ++ rest)
     by_case false h = refl
     by_case true h =
         let after = front_of start (drop (length start) (slice ++ rest)) slice rest (sym (begins_so (slice ++ rest) start h)) long in
-        absurd (true_not (so_begins slice start after.0 after.1) e)
+        absurd (both_ways _ e (so_begins slice start after.0 after.1))
 
 -- the second character of a weight
 second_is : (x : ℕ) (text tail : List ℕ) → text ≡ 47 ∷ tail → starts_with nat_eq text (47 ∷ x ∷ []) ≡ false → begins (λ c. c == x) (drop 1 text) ≡ false
@@ -165,7 +168,7 @@ second_is x text tail e h = ap (λ (l : List ℕ). begins (λ c. c == x) (drop 1
       where
         by_case : (b : Bool) → (c == x) ≡ b → b ≡ false
         by_case false r = refl
-        by_case true r = absurd (true_not (so_begins text (47 ∷ x ∷ []) cs (q ∙ ap (λ d. 47 ∷ d ∷ cs) (eqb-true c x r))) h)
+        by_case true r = absurd (both_ways _ h (so_begins text (47 ∷ x ∷ []) cs (q ∙ ap (λ d. 47 ∷ d ∷ cs) (eqb-true c x r))))
 
 weight_found : (slice rest : List ℕ) → IsWeight slice → front (slice ++ rest) ≡ cut (Lexeme lex.Weight) (length slice)
 weight_found slice rest h =

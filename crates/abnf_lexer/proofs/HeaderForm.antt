@@ -1,21 +1,21 @@
 -- A header without a fault has the form of a header, and what has the form has no fault.
 use Rattle.std.proofs.Common.{◌≡◌, ◌≢◌, ℕ, Bool, true, false, not, cond, ◌&&◌, ◌||◌, ◌==◌, inl, inr, List, [], ◌∷◌, ◌++◌, length, take, drop, codes, nat_eq, refl, sym, ap, ◌∙◌, append_assoc}
 use Rattle.std.specs.List.{prefix_len, take_while, starts_with, list_all}
-use Rattle.std.proofs.lemmas.Bool.{and_parts, eqb-true}
+use Rattle.std.proofs.lemmas.Bool.{and_parts, eqb-true, or_right, both_ways}
 use Rattle.std.proofs.lemmas.Bool.Decides.{Decides-eqb}
-use Rattle.std.proofs.lemmas.List.{take_at, drop_at, append-nil}
+use Rattle.std.proofs.lemmas.List.{take_at, drop_at, append-nil, take-append-drop}
 use Rattle.std.proofs.lemmas.Slice.Eq.{slice_eq-Decides}
 use Rattle.vg_base.specs.declared.doc_fault.DocFault.{DocFault}
 use Rattle.vg_base.specs.declared.doc_fault.DocKind.{DocKind}
 use Rattle.vg_base.specs.declared.doc_fault.DocKind.TheVariants.{NoHeader, Version, Encoding, Unexpected}
 use Rattle.vg_base.specs.Places.{Walked}
 use Rattle.vg_base.proofs.Ascii.{passes}
-use Rattle.abnf_lexer.specs.Classes.{begins, is_empty, is_one_of, is_blank, is_field}
+use Rattle.abnf_lexer.specs.Classes.{is_empty, is_one_of, is_blank, is_field}
 use Rattle.abnf_lexer.specs.Faults.{told}
-use Rattle.abnf_lexer.specs.Forms.{IsRun}
-use Rattle.abnf_lexer.specs.Header.{is_semicolon, past, past_run, past_field, at_header, at_version, at_encoding, at_end, behind_header, field, begins_header, is_version, is_utf_8, is_encoding, version_faults, encoding_faults, end_faults, header_faults, IsEncoding, HasHeader, IsMarkOrNone}
-use Rattle.abnf_lexer.proofs.Runs.{true_not, or_right, Run, run_of, run_len}
-use Rattle.abnf_lexer.proofs.Closings.{begins_so}
+use Rattle.abnf_lexer.specs.Header.{is_mark, is_semicolon, past, past_run, past_field, at_header, at_version, at_encoding, at_end, behind_header, field, begins_header, is_version, is_utf_8, is_encoding, version_faults, encoding_faults, end_faults, header_faults, IsEncoding, HasHeader, IsMarkOrNone}
+use Rattle.vg_base.specs.Runs.{begins, IsRun}
+use Rattle.vg_base.proofs.LongestRuns.{Run, run_of, run_len}
+use Rattle.vg_base.proofs.Closings.{begins_so}
 
 -- ---- no fault, so the form
 
@@ -48,9 +48,9 @@ semicolon_first (c ∷ cs) e = ap (λ d. d ∷ cs) (eqb-true c 59 e)
 
 -- a run where one begins isn't empty
 some_run : (p : ℕ → Bool) (text : List ℕ) (r : Run p text (prefix_len p text)) → begins p text ≡ true → r.run ≢ []
-some_run p text r e q = true_not (sym (ap (begins p) (r.parts ∙ ap (λ (l : List ℕ). l ++ r.rest) q)) ∙ e) r.is_run.ends
+some_run p text r e q = both_ways _ r.is_run.ends (sym (ap (begins p) (r.parts ∙ ap (λ (l : List ℕ). l ++ r.rest) q)) ∙ e)
 
-all_append : (p : ℕ → Bool) (xs ys : List ℕ) → list_all p xs ≡ true → list_all p ys ≡ true → list_all p (xs ++ ys) ≡ true
+pub all_append : (p : ℕ → Bool) (xs ys : List ℕ) → list_all p xs ≡ true → list_all p ys ≡ true → list_all p (xs ++ ys) ≡ true
 all_append p [] ys e h = h
 all_append p (x ∷ xs) ys e h =
     let both = and_parts (p x) (list_all p xs) e in
@@ -63,7 +63,7 @@ NameForm gap name = (encoding : List ℕ) × (blanks : List ℕ) × (gap ++ name
 
 name_form : (gap name rest : List ℕ) → list_all is_blank gap ≡ true → list_all is_field name ≡ true → begins is_field (gap ++ (name ++ rest)) ≡ false → is_encoding name ≡ true → NameForm gap name
 name_form gap [] rest g f b e = ([], gap, append-nil gap, inl refl, g)
-name_form [] (c ∷ name) rest g f b e = absurd (true_not (and_parts (is_field c) (list_all is_field name) f).0 b)
+name_form [] (c ∷ name) rest g f b e = absurd (both_ways _ b (and_parts (is_field c) (list_all is_field name) f).0)
 name_form (d ∷ gap) (c ∷ name) rest g f b e =
     ((d ∷ gap) ++ (c ∷ name), [], sym (append-nil ((d ∷ gap) ++ (c ∷ name))), inr (record { gap = d ∷ gap; name = c ∷ name; whole = refl; some = cons_some d gap; blank = g; utf_8 = e }), refl)
   where
@@ -181,7 +181,7 @@ field_no_blank c e = by_case (is_blank c) refl
   where
     by_case : (b : Bool) → is_blank c ≡ b → b ≡ false
     by_case false h = refl
-    by_case true h = absurd (true_not e (blank_no_field c h))
+    by_case true h = absurd (both_ways _ (blank_no_field c h) e)
 
 record IsField (name : List ℕ) : Type 0 where
   each : list_all is_field name ≡ true
@@ -266,3 +266,29 @@ form_header text rest h =
     marked : (mark on text more : List ℕ) → on ≡ codes "#ABNF" ++ more → text ≡ mark ++ on → IsMarkOrNone mark → (at_header text).rest ≡ on
     marked mark on text more o e (inl m) = ap (λ (l : List ℕ). (at_header l).rest) (e ∙ (ap (λ (l : List ℕ). l ++ on) m ∙ o)) ∙ sym o
     marked mark on text more o e (inr m) = ap (λ (l : List ℕ). (at_header l).rest) (e ∙ ap (λ (l : List ℕ). l ++ on) m)
+
+-- ---- walks keep the text
+
+abbrev whole : Walked → List ℕ
+whole walk = walk.passed ++ walk.rest
+
+past-whole : (n : ℕ) (walk : Walked) → whole (past n walk) ≡ whole walk
+past-whole n walk = append_assoc walk.passed (take n walk.rest) (drop n walk.rest) ∙ ap (λ (l : List ℕ). walk.passed ++ l) (take-append-drop n walk.rest)
+
+past_run-whole : (p : ℕ → Bool) (walk : Walked) → whole (past_run p walk) ≡ whole walk
+past_run-whole p walk = past-whole (prefix_len p walk.rest) walk
+
+past_field-whole : (walk : Walked) → whole (past_field walk) ≡ whole walk
+past_field-whole walk = past_run-whole is_blank (past_run is_field walk) ∙ past_run-whole is_field walk
+
+at_header-whole : (text : List ℕ) → whole (at_header text) ≡ text
+at_header-whole text = by_mark (begins is_mark text)
+  where
+    by_mark : (b : Bool) → whole (cond b (past 1 (record { passed = []; rest = text })) (record { passed = []; rest = text })) ≡ text
+    by_mark true = past-whole 1 (record { passed = []; rest = text })
+    by_mark false = refl
+
+pub behind_header-whole : (text : List ℕ) → whole (behind_header text) ≡ text
+behind_header-whole text =
+    past-whole 1 (at_end text)
+    ∙ (past_field-whole (at_encoding text) ∙ (past_field-whole (at_version text) ∙ (past_run-whole is_blank (past 5 (at_header text)) ∙ (past-whole 5 (at_header text) ∙ at_header-whole text))))

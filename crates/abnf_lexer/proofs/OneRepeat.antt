@@ -1,15 +1,13 @@
 -- A repeat is read in one way.
 use Rattle.std.proofs.Common.{◌≡◌, ℕ, ◌+◌, Bool, true, false, ◌==◌, Option, Some, None, List, [], ◌∷◌, ◌++◌, length, codes, refl, sym, ap, ◌∙◌, arith, append_assoc}
 use Rattle.std.specs.List.{list_all}
-use Rattle.std.proofs.lemmas.Bool.{and_parts}
+use Rattle.std.proofs.lemmas.Bool.{and_parts, both_ways}
 use Rattle.std.proofs.lemmas.Bool.Decides.{nat_tests}
 use Rattle.vg_base.specs.Characters.{is_space}
-use Rattle.abnf_lexer.specs.Classes.{begins}
-use Rattle.abnf_lexer.specs.Forms.{ReachesFirst}
-use Rattle.abnf_lexer.specs.Front.{end_of}
+use Rattle.vg_base.specs.Runs.{begins, ReachesFirst, closing_end}
 use Rattle.abnf_lexer.specs.Repeats.{is_digit, Most, Same, Endless, UpTo, IsBlank, IsNumber, IsRange, IsChance, IsRepeat}
-use Rattle.abnf_lexer.proofs.Runs.{true_not, fronts_same, one_run}
-use Rattle.abnf_lexer.proofs.Closings.{found_end}
+use Rattle.vg_base.proofs.LongestRuns.{fronts_same, one_run}
+use Rattle.vg_base.proofs.Closings.{found_end}
 
 tail_of : (c : ℕ) (xs ys : List ℕ) → c ∷ xs ≡ c ∷ ys → xs ≡ ys
 tail_of c xs ys e = cc
@@ -28,17 +26,20 @@ digit_no_space c e = by_case (is_space c) refl
   where
     by_case : (b : Bool) → is_space c ≡ b → b ≡ false
     by_case false q = refl
-    by_case true q = absurd (true_not e (space_no_digit c q))
+    by_case true q = absurd (both_ways _ (space_no_digit c q) e)
 
-number_no_space : (number more : List ℕ) → IsNumber number → begins is_space (number ++ more) ≡ false
+-- no white space begins a number
+pub number_no_space : (number more : List ℕ) → IsNumber number → begins is_space (number ++ more) ≡ false
 number_no_space [] more h = absurd (h.some refl)
 number_no_space (c ∷ cs) more h = digit_no_space c (and_parts (is_digit c) (list_all is_digit cs) h.each).0
 
-number_digit : (number more : List ℕ) → IsNumber number → begins is_digit (number ++ more) ≡ true
+-- a digit begins a number
+pub number_digit : (number more : List ℕ) → IsNumber number → begins is_digit (number ++ more) ≡ true
 number_digit [] more h = absurd (h.some refl)
 number_digit (c ∷ cs) more h = (and_parts (is_digit c) (list_all is_digit cs) h.each).0
 
-blank_no_digit : (blank more : List ℕ) → IsBlank blank → begins is_digit more ≡ false → begins is_digit (blank ++ more) ≡ false
+-- no digit begins white space and what none begins
+pub blank_no_digit : (blank more : List ℕ) → IsBlank blank → begins is_digit more ≡ false → begins is_digit (blank ++ more) ≡ false
 blank_no_digit [] more h e = e
 blank_no_digit (c ∷ cs) more h e = space_no_digit c (and_parts (is_space c) (list_all is_space cs) h).0
 
@@ -50,7 +51,8 @@ chance_begins : (p : ℕ → Bool) (chance : Option (List ℕ)) (probability : L
 chance_begins p None probability h e f = ap (λ (l : List ℕ). begins p (ended l)) h ∙ e
 chance_begins p (Some inside) probability h e f = ap (λ (l : List ℕ). begins p (ended l)) h.whole ∙ f
 
-range_begins : (p : ℕ → Bool) (most : Most) (range more : List ℕ) → IsRange most range → begins p more ≡ false → p 45 ≡ false → begins p (range ++ more) ≡ false
+-- nothing of a class begins a range and what none of it begins
+pub range_begins : (p : ℕ → Bool) (most : Most) (range more : List ℕ) → IsRange most range → begins p more ≡ false → p 45 ≡ false → begins p (range ++ more) ≡ false
 range_begins p Same range more h e f = ap (λ (l : List ℕ). begins p (l ++ more)) h ∙ e
 range_begins p Endless range more h e f = ap (λ (l : List ℕ). begins p (l ++ more)) h.whole ∙ f
 range_begins p (UpTo number) range more h e f = ap (λ (l : List ℕ). begins p (l ++ more)) h.whole ∙ f
@@ -59,7 +61,7 @@ range_begins p (UpTo number) range more h e f = ap (λ (l : List ℕ). begins p 
 
 one_inside : (p q x y : List ℕ) → ReachesFirst (codes "/") p → ReachesFirst (codes "/") q → p ++ 47 ∷ x ≡ q ++ 47 ∷ y → p ≡ q
 one_inside p q x y h k e =
-    let same = some_same (length p + 1) (length q + 1) (sym (found_end (codes "/") p x (omega arith) h) ∙ (ap (end_of (codes "/")) e ∙ found_end (codes "/") q y (omega arith) k)) in
+    let same = some_same (length p + 1) (length q + 1) (sym (found_end (codes "/") p x (omega arith) h) ∙ (ap (closing_end (codes "/")) e ∙ found_end (codes "/") q y (omega arith) k)) in
     (fronts_same p q (47 ∷ x) (47 ∷ y) e (omega arith)).0
   where
     some_same : (m n : ℕ) → Some m ≡ Some n → m ≡ n
@@ -91,27 +93,27 @@ module _ (a b : List ℕ) (no_space_a : begins is_space a ≡ false) (no_space_b
   one_range Same Same r s h k e = record { most = refl; rest = sym (ap (λ (l : List ℕ). l ++ a) h) ∙ (e ∙ ap (λ (l : List ℕ). l ++ b) k) }
   one_range Same Endless r s h k e =
       let f : a ≡ 45 ∷ (k.after ++ b) = sym (ap (λ (l : List ℕ). l ++ a) h) ∙ (e ∙ ap (λ (l : List ℕ). l ++ b) k.whole) in
-      absurd (true_not (ap (begins hyphen) f) no_hyphen_a)
+      absurd (both_ways _ no_hyphen_a (ap (begins hyphen) f))
   one_range Same (UpTo y) r s h k e =
       let f : a ≡ 45 ∷ ((k.before ++ (y ++ k.after)) ++ b) = sym (ap (λ (l : List ℕ). l ++ a) h) ∙ (e ∙ ap (λ (l : List ℕ). l ++ b) k.whole) in
-      absurd (true_not (ap (begins hyphen) f) no_hyphen_a)
+      absurd (both_ways _ no_hyphen_a (ap (begins hyphen) f))
   one_range Endless Same r s h k e =
       let f : b ≡ 45 ∷ (h.after ++ a) = sym (ap (λ (l : List ℕ). l ++ b) k) ∙ (sym e ∙ ap (λ (l : List ℕ). l ++ a) h.whole) in
-      absurd (true_not (ap (begins hyphen) f) no_hyphen_b)
+      absurd (both_ways _ no_hyphen_b (ap (begins hyphen) f))
   one_range (UpTo x) Same r s h k e =
       let f : b ≡ 45 ∷ ((h.before ++ (x ++ h.after)) ++ a) = sym (ap (λ (l : List ℕ). l ++ b) k) ∙ (sym e ∙ ap (λ (l : List ℕ). l ++ a) h.whole) in
-      absurd (true_not (ap (begins hyphen) f) no_hyphen_b)
+      absurd (both_ways _ no_hyphen_b (ap (begins hyphen) f))
   one_range Endless Endless r s h k e =
       let f = tail_of 45 (h.after ++ a) (k.after ++ b) (sym (ap (λ (l : List ℕ). l ++ a) h.whole) ∙ (e ∙ ap (λ (l : List ℕ). l ++ b) k.whole)) in
       record { most = refl; rest = (one_run is_space h.after k.after a b h.blank_after no_space_a k.blank_after no_space_b f).1 }
   one_range Endless (UpTo y) r s h k e =
       let f = tail_of 45 (h.after ++ a) ((k.before ++ (y ++ k.after)) ++ b) (sym (ap (λ (l : List ℕ). l ++ a) h.whole) ∙ (e ∙ ap (λ (l : List ℕ). l ++ b) k.whole)) in
       let g = one_run is_space h.after k.before a (y ++ (k.after ++ b)) h.blank_after no_space_a k.blank_before (number_no_space y (k.after ++ b) k.is_number) (f ∙ up_to k.before y k.after b) in
-      absurd (true_not (ap (begins is_digit) g.1 ∙ number_digit y (k.after ++ b) k.is_number) no_digit_a)
+      absurd (both_ways _ no_digit_a (ap (begins is_digit) g.1 ∙ number_digit y (k.after ++ b) k.is_number))
   one_range (UpTo x) Endless r s h k e =
       let f = tail_of 45 ((h.before ++ (x ++ h.after)) ++ a) (k.after ++ b) (sym (ap (λ (l : List ℕ). l ++ a) h.whole) ∙ (e ∙ ap (λ (l : List ℕ). l ++ b) k.whole)) in
       let g = one_run is_space h.before k.after (x ++ (h.after ++ a)) b h.blank_before (number_no_space x (h.after ++ a) h.is_number) k.blank_after no_space_b (sym (up_to h.before x h.after a) ∙ f) in
-      absurd (true_not (ap (begins is_digit) (sym g.1) ∙ number_digit x (h.after ++ a) h.is_number) no_digit_b)
+      absurd (both_ways _ no_digit_b (ap (begins is_digit) (sym g.1) ∙ number_digit x (h.after ++ a) h.is_number))
   one_range (UpTo x) (UpTo y) r s h k e =
       let f = tail_of 45 ((h.before ++ (x ++ h.after)) ++ a) ((k.before ++ (y ++ k.after)) ++ b) (sym (ap (λ (l : List ℕ). l ++ a) h.whole) ∙ (e ∙ ap (λ (l : List ℕ). l ++ b) k.whole)) in
       let g = one_run is_space h.before k.before (x ++ (h.after ++ a)) (y ++ (k.after ++ b)) h.blank_before (number_no_space x (h.after ++ a) h.is_number) k.blank_before (number_no_space y (k.after ++ b) k.is_number)

@@ -3,11 +3,9 @@ use Rattle.std.proofs.Common.{◌≡◌, ℕ, List, [], ◌∷◌, get_or, refl,
 use Rattle.std.specs.declared.cmp.Ordering.{Ordering}
 use Rattle.std.specs.declared.cmp.Ordering.TheVariants.{Less, Equal, Greater}
 use Rattle.std.specs.FinMap.{IsAntisymmetric, nat_cmp-IsAntisymmetric}
-use Rattle.std.specs.Ordering.{nat_cmp, on, ordering_then, then_cmp}
-use Rattle.vg_base.specs.declared.doc_fault.DocFault.{DocFault}
+use Rattle.std.specs.Ordering.{nat_cmp, ordering_then}
 use Rattle.vg_base.specs.declared.doc_fault.DocKind.{DocKind}
 use Rattle.vg_base.specs.declared.doc_fault.DocKind.TheVariants as doc
-use Rattle.vg_base.specs.declared.place.Place.{Place}
 use Rattle.vg_base.specs.Faults.{doc_kind_number, doc_fault_order}
 use Rattle.vg_base.specs.Places.{place_order}
 

@@ -3,11 +3,6 @@ use Rattle.std.specs.Prelude.{ℕ, Bool, true, false, not, ◌||◌, ◌==◌, L
 use Rattle.std.specs.List.{list_any}
 use Rattle.vg_base.specs.Characters.{Ranges, lies_in, is_space}
 
--- the text begins with a character of the class
-abbrev pub begins : (ℕ → Bool) → List ℕ → Bool
-begins p [] = false
-begins p (c ∷ cs) = p c
-
 abbrev pub is_empty : List ℕ → Bool
 is_empty [] = true
 is_empty _ = false

@@ -9,8 +9,11 @@ use Rattle.vg_base.specs.Places.{Walked, place_after}
 use Rattle.abnf_lexer.specs.declared.lexemes.PieceKind.{PieceKind}
 use Rattle.abnf_lexer.specs.declared.lexemes.PieceKind.TheVariants.{Lexeme}
 use Rattle.abnf_lexer.specs.declared.lexemes.LexKind.TheVariants.{Name}
-use Rattle.abnf_lexer.specs.Classes.{begins, is_empty, is_one_of, is_joint}
-use Rattle.abnf_lexer.specs.Cutting.{Piece, lexemes}
+use Rattle.vg_base.specs.Cut.{Placed}
+use Rattle.vg_base.specs.Limits as limits
+use Rattle.vg_base.specs.Runs.{begins}
+use Rattle.abnf_lexer.specs.Classes.{is_empty, is_one_of, is_joint}
+use Rattle.abnf_lexer.specs.Lexemes.{lexemes}
 
 -- where the test holds, a fault of this kind just behind the front
 abbrev pub told : Bool → (front : List ℕ) → DocKind → List DocFault
@@ -39,7 +42,7 @@ is_name_kind (Lexeme Name) = true
 is_name_kind _ = false
 
 -- a name that is followed by a joint
-abbrev pub joint : Piece → List DocFault
+abbrev pub joint : Placed PieceKind → List DocFault
 joint piece = told (is_name_kind piece.kind && begins is_joint piece.rest) (piece.front ++ piece.slice) BadCharacter
 
 abbrev pub is_opening : ℕ → Bool
@@ -52,24 +55,27 @@ is_closing = is_one_of (codes ")]")
 abbrev pub bracketed : ℕ → List ℕ → ℕ
 bracketed count slice = if begins is_opening slice then count + 1 else (if begins is_closing slice then count - 1 else count)
 
-abbrev pub open_brackets : List Piece → ℕ
+-- how many brackets are open behind these lexemes
+abbrev pub open_brackets : List (Placed PieceKind) → ℕ
 open_brackets = fold (λ count piece. bracketed count piece.slice) 0
 
--- an opening bracket where 64 are open
-abbrev pub deep : List Piece → Piece → List DocFault
-deep before piece = told (begins is_opening piece.slice && nat_le 64 (open_brackets before)) piece.front Deep
+-- an opening bracket where as many are open as may be
+abbrev pub deep : List (Placed PieceKind) → Placed PieceKind → List DocFault
+deep before piece = told (begins is_opening piece.slice && nat_le limits.nesting (open_brackets before)) piece.front Deep
 
--- a lexeme that has 65,536 before it
-abbrev pub large : List Piece → Piece → List DocFault
-large before piece = told (length before == 65536) piece.front Large
+-- a lexeme that has as many before it as there may be
+abbrev pub large : List (Placed PieceKind) → Placed PieceKind → List DocFault
+large before piece = told (length before == limits.lexemes) piece.front Large
 
-abbrev pub faults_at : List Piece → Piece → List DocFault
+-- all faults of a lexeme, given those before it
+abbrev pub faults_at : List (Placed PieceKind) → Placed PieceKind → List DocFault
 faults_at before piece = joint piece ++ (deep before piece ++ large before piece)
 
-abbrev pub lexeme_faults : (before those : List Piece) → List DocFault
+-- all faults of lexemes, given those before them
+abbrev pub lexeme_faults : (before those : List (Placed PieceKind)) → List DocFault
 lexeme_faults before [] = []
 lexeme_faults before (piece ∷ pieces) = faults_at before piece ++ lexeme_faults (before ++ piece ∷ []) pieces
 
--- all faults of a text that is cut into these pieces, up to a stop
-abbrev pub cutting_faults : List ℕ → List Piece → Walked → List DocFault
+-- all faults of a text that is cut into these pieces, up to a place where none begins
+abbrev pub cutting_faults : List ℕ → List (Placed PieceKind) → Walked → List DocFault
 cutting_faults text pieces stop = bad_characters [] text ++ (lexeme_faults [] (lexemes pieces) ++ stop_faults stop)

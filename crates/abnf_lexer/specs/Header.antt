@@ -6,7 +6,8 @@ use Rattle.std.specs.Cmp.Lexicographic.{pointwise}
 use Rattle.vg_base.specs.declared.doc_fault.DocKind.TheVariants.{NoHeader, Version, Encoding, Unexpected}
 use Rattle.vg_base.specs.declared.doc_fault.DocFault.{DocFault}
 use Rattle.vg_base.specs.Places.{Walked}
-use Rattle.abnf_lexer.specs.Classes.{begins, is_empty, is_one_of, is_blank, is_field}
+use Rattle.vg_base.specs.Runs.{begins}
+use Rattle.abnf_lexer.specs.Classes.{is_empty, is_one_of, is_blank, is_field}
 use Rattle.abnf_lexer.specs.Faults.{told}
 
 abbrev pub past : ℕ → Walked → Walked

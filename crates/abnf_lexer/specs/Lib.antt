@@ -1,10 +1,11 @@
 pub mod Classes
 pub mod Codes
 pub mod Forms
-pub mod Cutting
+pub mod Lexemes
 pub mod Faults
 pub mod Header
 pub mod Lexing
 pub mod Repeats
-pub mod Front
-pub mod Tally
+pub mod Insides
+-- For private contracts alone.
+pub mod code

@@ -2,8 +2,12 @@
 -- probability between slashes or nothing, with white space around each part or none.
 use Rattle.std.specs.Prelude.{◌≡◌, ◌≢◌, ℕ, Bool, true, List, [], ◌∷◌, ◌++◌, Option, Some, None, codes}
 use Rattle.std.specs.List.{list_all}
+use Rattle.std.specs.Option.{option_copied}
 use Rattle.vg_base.specs.Characters.{is_space, lies_in}
-use Rattle.abnf_lexer.specs.Forms.{IsEnclosed, ReachesFirst}
+use Rattle.vg_base.specs.Runs.{IsEnclosed, ReachesFirst}
+use Rattle.abnf_lexer.specs.declared.repeats.Most as repeats
+use Rattle.abnf_lexer.specs.declared.repeats.Most.TheVariants as lent
+use Rattle.abnf_lexer.specs.declared.repeats.Repeat as lent_repeat
 
 abbrev pub is_digit : ℕ → Bool
 is_digit = lies_in ((0x30, 0x39) ∷ [])
@@ -66,3 +70,23 @@ pub record IsRepeat (slice least : List ℕ) (most : Most) (chance : Option (Lis
   pub blank_after : IsBlank after
   pub is_range : IsRange most range
   pub is_chance : IsChance chance probability
+
+-- no numbers and no probability make the slice a repeat
+abbrev pub IsNoRepeat : (slice : List ℕ) → Type 0
+IsNoRepeat slice = (least : List ℕ) (most : Most) (chance : Option (List ℕ)) → IsRepeat slice least most chance → ⊥
+
+-- ---- as the code lends them
+
+-- the numbers of a repeat and its probability
+pub record Numbers : Type 0 where
+  pub least : List ℕ
+  pub most : Most
+  pub chance : Option (List ℕ)
+
+abbrev pub most_of : repeats.Most → Most
+most_of lent.Same = Same
+most_of lent.Endless = Endless
+most_of (lent.UpTo number) = UpTo number.now
+
+abbrev pub shown : lent_repeat.Repeat → Numbers
+shown r = record { least = r.least.now; most = most_of r.most; chance = option_copied r.chance }

@@ -1,6 +1,5 @@
 //! Classes of characters that tell lexemes apart.
 ghost use Rattle.std.specs.Prelude.{◌≡◌};
-ghost use Rattle.vg_base.specs.Places.{is_within_line};
 ghost use Rattle.abnf_lexer.specs.Classes as class;
 
 use vg_base::is_space;
@@ -21,12 +20,6 @@ pub(crate) fn is_bare(c: char) -> bool
     ensures { result ≡ class.is_bare c }
 {
     !(is_space(c) || is_special(c))
-}
-
-pub(crate) fn is_within_line(c: char) -> bool
-    ensures { result ≡ is_within_line c }
-{
-    !matches!(c, '\r' | '\n')
 }
 
 pub(crate) fn is_letter(c: char) -> bool

@@ -1,7 +1,7 @@
 //! The codes of languages.
 ghost use Rattle.std.specs.Prelude.{◌≡◌, ◌↔◌, ◌&&◌, IsTrue, nat_le};
 ghost use Rattle.abnf_lexer.specs.Codes.{IsCode};
-ghost use Rattle.abnf_lexer.specs.Front as spec;
+ghost use Rattle.abnf_lexer.specs.code.Front as spec;
 
 use crate::classes::{is_letter, is_letter_or_digit};
 
@@ -24,7 +24,15 @@ fn is_allowed(first: bool, c: char) -> bool
 }
 
 /// Whether characters are the code of a language.
-pub(crate) fn is_code(text: &[char]) -> bool
+#[tactic(auto, using(crate::proofs::CodeForms::code_form, crate::proofs::CodeForms::code_read))]
+pub fn is_code(text: &[char]) -> bool
+    ensures { IsTrue result ↔ IsCode text.now }
+{
+    reads_code(text)
+}
+
+/// Whether characters go on as the code of a language, part by part.
+pub(crate) fn reads_code(text: &[char]) -> bool
     ensures { result ≡ spec.is_code text.now }
 {
     let mut first = true;

@@ -1,21 +1,20 @@
 //! Faults of a cutting, each told where it is found.
-ghost use Rattle.std.specs.Prelude.{◌≡◌, ◌&&◌, ◌<◌, ◌≤◌, ◌^◌, [], length, nat_le};
+ghost use Rattle.std.specs.Prelude.{◌≡◌, ◌&&◌, ◌<◌, ◌≤◌, ◌^◌, length, take, nat_le};
 ghost use Rattle.std.specs.List.{prefix_len};
 ghost use Rattle.vg_base.specs.Characters.{is_char};
 ghost use Rattle.vg_base.specs.declared.doc_fault.DocKind.TheVariants.{BadCharacter};
 ghost use Rattle.vg_base.specs.Faults.{doc_fault_order};
 ghost use Rattle.vg_base.specs.First.{IsFirst};
+ghost use Rattle.vg_base.specs.Limits as limits;
+ghost use Rattle.vg_base.specs.Runs.{begins};
 ghost use Rattle.abnf_lexer.specs.Classes as class;
-ghost use Rattle.abnf_lexer.specs.Classes.{begins};
 ghost use Rattle.abnf_lexer.specs.Faults as spec;
+ghost use Rattle.abnf_lexer.specs.Header.{past};
 ghost use Rattle.abnf_lexer.specs.declared.lexemes.PieceKind.TheVariants.{Lexeme};
 
 use crate::classes::is_joint;
 use crate::lexemes::LexKind;
-use vg_base::{Cursor, DocFault, DocKind, is_char};
-
-/// How many brackets may be open.
-const MOST_BRACKETS: usize = 64;
+use vg_base::{Cursor, DocFault, DocKind, is_char, limits};
 
 /// Where the test holds, a fault of this kind at the cursor.
 pub(crate) fn told(test: bool, cursor: &Cursor<'_>, kind: DocKind) -> Option<DocFault>
@@ -39,13 +38,17 @@ fn allowed_len(text: &[char]) -> usize
     text.iter().take_while(|c| is_char(**c)).count()
 }
 
-/// The first character that a document may not have.
-pub(crate) fn bad_character(text: &[char]) -> Option<DocFault>
-    ensures { IsFirst doc_fault_order (spec.bad_characters [] text.now) result }
+/// Passes so many characters, and tells the first of them that a document may not have.
+pub(crate) fn pass(cursor: &mut Cursor<'_>, len: usize) -> Option<DocFault>
+    requires { len ≤ length cursor.old.rest }
+    ensures passed { cursor.new ≡ past len cursor.old }
+    ensures first { IsFirst doc_fault_order (spec.bad_characters cursor.old.passed (take len cursor.old.rest)) result }
 {
-    let mut cursor = Cursor::new(text);
-    cursor.go(allowed_len(text));
-    told(!cursor.rest().is_empty(), &cursor, DocKind::BadCharacter)
+    let allowed = allowed_len(&cursor.rest()[..len]);
+    cursor.go(allowed);
+    let bad = told(allowed < len, cursor, DocKind::BadCharacter);
+    cursor.go(len - allowed);
+    bad
 }
 
 /// Whether a text begins with what needs an end.
@@ -88,9 +91,9 @@ fn begins_closing(text: &[char]) -> bool
 
 /// Whether a lexeme opens a bracket where as many are open as may be.
 pub(crate) fn is_deep(count: usize, slice: &[char]) -> bool
-    ensures { result ≡ (begins spec.is_opening slice.now && nat_le 64 count) }
+    ensures { result ≡ (begins spec.is_opening slice.now && nat_le limits.nesting count) }
 {
-    begins_opening(slice) && MOST_BRACKETS <= count
+    begins_opening(slice) && limits::NESTING as usize <= count
 }
 
 /// How many brackets are open behind one more lexeme.

@@ -1,17 +1,15 @@
 //! What stands at the front of a text.
-ghost use Rattle.std.specs.Prelude.{◌≡◌, ◌+◌, ◌≤◌, ◌<◌, ◌^◌, ◌∷◌, take, drop, length, codes, IfSome};
+ghost use Rattle.std.specs.Prelude.{◌≡◌, ◌≤◌, ◌<◌, length, IfSome};
 ghost use Rattle.std.specs.List.{prefix_len};
-ghost use Rattle.vg_base.specs.Characters.{is_space, is_name};
-ghost use Rattle.vg_base.specs.Places.{is_within_line};
+ghost use Rattle.vg_base.specs.Characters.{is_name};
 ghost use Rattle.abnf_lexer.specs.Classes as class;
-ghost use Rattle.abnf_lexer.specs.Front as spec;
-ghost use Rattle.abnf_lexer.specs.Tally.{FitsIn};
+ghost use Rattle.abnf_lexer.specs.code.Front as spec;
+ghost use Rattle.abnf_lexer.specs.code.Tally.{FitsIn};
 
-use crate::classes::{is_bare, is_code_character, is_sign, is_within_line};
-use crate::codes::is_code;
-use crate::ends::end_of;
+use crate::classes::{is_bare, is_code_character, is_sign};
+use crate::codes::reads_code;
 use crate::lexemes::{LexKind, PieceKind};
-use vg_base::{is_name, is_name_start, is_space};
+use vg_base::{enclosed_len, is_name, is_name_start, is_space, line_len, space_len};
 
 /// A piece at the front of a text: its kind, and how many characters it has.
 #[derive(Clone, Copy, Debug)]
@@ -28,28 +26,12 @@ fn bare_len(text: &[char]) -> usize
     text.iter().take_while(|c| is_bare(**c)).count()
 }
 
-/// How many characters of white space come next.
-fn space_len(text: &[char]) -> usize
-    ensures value { result ≡ prefix_len is_space text.now }
-    ensures within { result ≤ length text.now }
-{
-    text.iter().take_while(|c| is_space(**c)).count()
-}
-
 /// How many characters of a name come next.
 fn name_len(text: &[char]) -> usize
     ensures value { result ≡ prefix_len is_name text.now }
     ensures within { result ≤ length text.now }
 {
     text.iter().take_while(|c| is_name(**c)).count()
-}
-
-/// How many characters there are to the end of the line.
-fn line_len(text: &[char]) -> usize
-    ensures value { result ≡ prefix_len is_within_line text.now }
-    ensures within { result ≤ length text.now }
-{
-    text.iter().take_while(|c| is_within_line(**c)).count()
 }
 
 /// How many letters, digits and hyphens come next.
@@ -67,23 +49,13 @@ fn cut_at(kind: PieceKind, len: Option<usize>) -> Option<Cut>
     Some(Cut { kind, len: len? })
 }
 
-/// An opening of so many characters, and all to the end of the next closing.
-fn enclosed(opening: usize, close: &[char], text: &[char]) -> Option<usize>
-    requires { opening ≤ length text.now }
-    ensures value { result ≡ spec.enclosed opening close.now text.now }
-    ensures within { IfSome result (λ n. n ≤ length text.now) }
-{
-    let n = end_of(close, &text[opening..])?;
-    Some(opening + n)
-}
-
 /// How long a media type is that comes next; 0 where none does.
 fn media_len(text: &[char]) -> usize
     ensures value { result ≡ spec.media_len text.now }
     ensures within { result ≤ length text.now }
 {
     if text.starts_with(&['~', '<']) {
-        enclosed(2, &['>'], text).unwrap_or(0)
+        enclosed_len(2, &['>'], text).unwrap_or(0)
     } else {
         0
     }
@@ -95,7 +67,7 @@ fn angled(opening: usize, text: &[char]) -> Option<usize>
     ensures value { result ≡ spec.angled opening text.now }
     ensures within { IfSome result (λ n. n ≤ length text.now) }
 {
-    let n = enclosed(opening, &['>'], text)?;
+    let n = enclosed_len(opening, &['>'], text)?;
     Some(n + media_len(&text[n..]))
 }
 
@@ -125,10 +97,10 @@ fn slash(text: &[char]) -> Option<Cut>
             kind: PieceKind::LineComment,
             len: 2 + line_len(rest),
         }),
-        [_, '*', ..] => cut_at(PieceKind::BlockComment, enclosed(2, &['*', '/'], text)),
+        [_, '*', ..] => cut_at(PieceKind::BlockComment, enclosed_len(2, &['*', '/'], text)),
         _ => cut_at(
             PieceKind::Lexeme(LexKind::Weight),
-            enclosed(1, &['/'], text),
+            enclosed_len(1, &['/'], text),
         ),
     }
 }
@@ -141,7 +113,7 @@ fn language(text: &[char]) -> Option<Cut>
 {
     let rest = &text[1..];
     let len = code_len(rest);
-    if is_code(&rest[..len]) {
+    if reads_code(&rest[..len]) {
         Some(Cut {
             kind: PieceKind::Lexeme(LexKind::Language),
             len: 1 + len,
@@ -158,14 +130,14 @@ fn tag(text: &[char]) -> Option<Cut>
     ensures within { FitsIn result (length text.now) }
 {
     let len = match text {
-        ['{', '!', '{', ..] => enclosed(3, &['}', '!', '}'], text),
-        _ => enclosed(1, &['}'], text),
+        ['{', '!', '{', ..] => enclosed_len(3, &['}', '!', '}'], text),
+        _ => enclosed_len(1, &['}'], text),
     };
     cut_at(PieceKind::Lexeme(LexKind::Tag), len)
 }
 
 /// The piece at the front of a text, if one begins there.
-#[tactic(auto, unfolding(crate::specs::Front::front))]
+#[tactic(auto, unfolding(crate::specs::code::Front::front))]
 pub(crate) fn front(text: &[char]) -> Option<Cut>
     ensures value { result ≡ spec.front text.now }
     ensures within { FitsIn result (length text.now) }
@@ -183,7 +155,7 @@ pub(crate) fn front(text: &[char]) -> Option<Cut>
     } else if c == '"' {
         cut_at(
             PieceKind::Lexeme(LexKind::Quoted),
-            enclosed(1, &['"'], text),
+            enclosed_len(1, &['"'], text),
         )
     } else if c == '$' {
         dollar(text)

@@ -4,7 +4,7 @@ ghost use Rattle.std.specs.List.{prefix_len, take_while, starts_with};
 ghost use Rattle.vg_base.specs.Faults.{doc_fault_order};
 ghost use Rattle.vg_base.specs.First.{IsFirst};
 ghost use Rattle.abnf_lexer.specs.Classes as class;
-ghost use Rattle.abnf_lexer.specs.Classes.{begins};
+ghost use Rattle.vg_base.specs.Runs.{begins};
 ghost use Rattle.abnf_lexer.specs.Header as spec;
 
 use crate::classes::{is_blank, is_field};

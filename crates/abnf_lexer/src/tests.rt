@@ -1,12 +1,11 @@
 ghost use Rattle.std.specs.Prelude.{All};
 ghost use Rattle.abnf_lexer.specs.Lexing.{IsWithin};
 
-use crate::{DocRefused, Spanned, lex};
-use sqlite_items::Items;
+use crate::{LexKind, Most, Spanned, inside_of, lex, read_repeat};
 use std::alloc::{AllocError, Global};
 use std::process::Abort;
 use std::test::Fail;
-use vg_base::Text;
+use vg_base::{Items, Text};
 
 /// Each lexeme by its kind, its place and its characters.
 fn described(alloc: Global, text: &Text, lexemes: &Items<Spanned>) -> Result<String, AllocError>
@@ -138,4 +137,100 @@ fn expect_some(rt: &impl Abort, alloc: Global, text: &str, count: u64) -> Result
     let lexemes = lex(alloc, &Text::of(alloc, text)?)?;
     assert_eq!(rt; lexemes.len() as u64, count, "how many lexemes");
     Ok(())
+}
+
+/// The parts of a repeat as they are written, between strokes.
+fn parts(alloc: Global, slice: &[char]) -> Result<String, AllocError> {
+    let Some(repeat) = read_repeat(slice) else {
+        return String::from_str(alloc, "none");
+    };
+    let least = written(alloc, repeat.least)?;
+    let most = match repeat.most {
+        Most::Same => String::from_str(alloc, "same")?,
+        Most::Endless => String::from_str(alloc, "endless")?,
+        Most::UpTo(number) => written(alloc, number)?,
+    };
+    let chance = match repeat.chance {
+        Some(chance) => written(alloc, chance)?,
+        None => String::from_str(alloc, "no")?,
+    };
+    format!(in alloc; "{least}|{most}|{chance}")
+}
+
+fn written(alloc: Global, characters: &[char]) -> Result<String, AllocError> {
+    let mut text = String::new(alloc);
+    for c in characters {
+        text.push(*c)?;
+    }
+    Ok(text)
+}
+
+const REPEATS: &str = "<2>:2|same|no
+<0-1>:0|1|no
+< 1 - 20 / 0.5 / >:1|20| 0.5 
+<3-/x/>:3|endless|x
+<12-  >:12|endless|no
+<1-2-3>:none
+<-1>:none
+<1 2>:none
+<1/2>:none
+<a>:none
+<1>~<a>:none
+<>:none";
+
+#[test]
+fn repeats(rt: HostRuntime) -> Result<(), Fail> {
+    let alloc = rt.alloc();
+    for row in REPEATS.lines() {
+        let Some((slice, want)) = row.split_once(':') else {
+            continue;
+        };
+        let characters = Text::of(alloc, slice)?.characters(alloc)?;
+        let found = parts(alloc, characters.as_slice())?;
+        assert_eq!(rt; found.as_str(), want, "{slice:?}");
+    }
+    Ok(())
+}
+
+/// The inside of a slice of this kind, and its media type behind a stroke.
+fn inside(alloc: Global, kind: LexKind, slice: &[char]) -> Result<String, AllocError> {
+    let Some(inside) = inside_of(kind, slice) else {
+        return String::from_str(alloc, "none");
+    };
+    let characters = written(alloc, inside.characters)?;
+    match inside.media {
+        Some(media) => {
+            let media = written(alloc, media)?;
+            format!(in alloc; "{characters}|{media}")
+        }
+        None => Ok(characters),
+    }
+}
+
+fn expect_inside(
+    rt: &impl Abort,
+    alloc: Global,
+    kind: LexKind,
+    slice: &str,
+    want: &str,
+) -> Result<(), Fail> {
+    let characters = Text::of(alloc, slice)?.characters(alloc)?;
+    let found = inside(alloc, kind, characters.as_slice())?;
+    assert_eq!(rt; found.as_str(), want, "{slice:?}");
+    Ok(())
+}
+
+#[test]
+fn insides(rt: HostRuntime) -> Result<(), Fail> {
+    let alloc = rt.alloc();
+    expect_inside(&rt, alloc, LexKind::Bare, "a-1", "a-1")?;
+    expect_inside(&rt, alloc, LexKind::Quoted, "\"a b\"", "a b")?;
+    expect_inside(&rt, alloc, LexKind::Name, "$a_1", "a_1")?;
+    expect_inside(&rt, alloc, LexKind::UriRef, "$<u#r>~<t>", "u#r|t")?;
+    expect_inside(&rt, alloc, LexKind::Angle, "<>", "")?;
+    expect_inside(&rt, alloc, LexKind::Weight, "/0.1/", "0.1")?;
+    expect_inside(&rt, alloc, LexKind::Language, "!en-US", "en-US")?;
+    expect_inside(&rt, alloc, LexKind::Tag, "{!{}}!}", "}")?;
+    expect_inside(&rt, alloc, LexKind::Tag, "{ a }", " a ")?;
+    expect_inside(&rt, alloc, LexKind::Quoted, "\"a\"b\"", "none")
 }

@@ -1,9 +1,8 @@
-use Rattle.std.proofs.Common.{[], ◌++◌}
-use Rattle.abnf_lexer.specs.Cutting.{lexemes}
-use Rattle.abnf_lexer.specs.Faults.{bad_characters, lexeme_faults, stop_faults}
+use Rattle.abnf_lexer.proofs.Answering.{settled_first, stopped_first}
 use Rattle.abnf_lexer.proofs.cutting.first_fault.Goals as goal
 
-pub returns : goal.returns
-returns c = λ pieces h.
-    c.sooner-2.ensures.joins (bad_characters [] c.args.text.now) (lexeme_faults [] (lexemes pieces) ++ stop_faults c.args.end.now) c.bad_character.ensures
-    (c.sooner.ensures.joins (lexeme_faults [] (lexemes pieces)) (stop_faults c.args.end.now) h.first c.stop.ensures)
+pub returns-in-Some : goal.returns-in-Some
+returns-in-Some c = λ text header t cut. settled_first text c.args.end.now c.args.tally.now c.in-Some.fault header t cut c.in-Some.is
+
+pub returns-in-None : goal.returns-in-None
+returns-in-None c = λ text header t cut. stopped_first text c.args.end.now c.args.tally.now c.stop.result header t cut c.in-None.is c.stop.ensures

@@ -5,7 +5,7 @@ use Rattle.vg_base.specs.declared.doc_fault.DocKind.TheVariants.{Version, Encodi
 use Rattle.vg_base.specs.Faults.{doc_fault_order}
 use Rattle.vg_base.specs.First.{IsFirst}
 use Rattle.vg_base.specs.Places.{Walked}
-use Rattle.abnf_lexer.specs.Classes.{begins}
+use Rattle.vg_base.specs.Runs.{begins}
 use Rattle.abnf_lexer.specs.Faults.{told}
 use Rattle.abnf_lexer.specs.Header.{past_field, field, is_version, is_encoding, is_semicolon, version_faults, encoding_faults, end_faults}
 use Rattle.abnf_lexer.proofs.header.fields.Goals as goal
