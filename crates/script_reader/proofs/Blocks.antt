@@ -1,7 +1,7 @@
 -- The search for the end of a comment.
 use Rattle.std.proofs.Common.{◌≡◌, ℕ, ◌+◌, ◌<◌, ◌≤◌, Bool, true, false, cond, ◌&&◌, ◌==◌, Option, Some, None, List, [], ◌∷◌, length, get_or, drop, refl, sym, ap, ◌∙◌, arith, length-drop}
 use Rattle.std.proofs.lemmas.List.{at_drop_more}
-use Rattle.script_reader.specs.Front.{more, begins_slash, block_len}
+use Rattle.script_reader.specs.code.Front.{more, begins_slash, block_len}
 
 abbrev pub further : ℕ → Option ℕ → Option ℕ
 further n None = None

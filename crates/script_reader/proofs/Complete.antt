@@ -8,25 +8,26 @@ use Rattle.vg_base.specs.declared.script.Key.{Key}
 use Rattle.vg_base.specs.declared.script.BinOp.{BinOp}
 use Rattle.vg_base.specs.declared.script.BinOp.TheVariants as bin
 use Rattle.vg_base.specs.declared.script.Key.TheVariants as k
-use Rattle.script_reader.specs.declared.lexeme.Sign.{Sign}
-use Rattle.script_reader.specs.declared.lexeme.Sign.TheVariants as g
-use Rattle.script_reader.specs.declared.lexeme.Lexeme.{Lexeme}
-use Rattle.script_reader.specs.declared.lexeme.Lexeme.TheVariants as l
-use Rattle.script_reader.specs.declared.roles.Role.{Role}
-use Rattle.script_reader.specs.declared.roles.Role.TheVariants as r
-use Rattle.script_reader.specs.declared.stack.View.{View}
-use Rattle.script_reader.specs.declared.stack.View.TheVariants as v
-use Rattle.script_reader.specs.declared.stack.Source.TheVariants as s
-use Rattle.script_reader.specs.declared.stack.Now.{Now}
-use Rattle.script_reader.specs.declared.stack.Now.TheVariants as n
-use Rattle.script_reader.specs.declared.stack.Frame.{Frame}
-use Rattle.script_reader.specs.declared.stack.Frame.TheVariants as f
-use Rattle.script_reader.specs.declared.stack.Open.{Open}
-use Rattle.script_reader.specs.declared.stack.Inside.{Inside}
-use Rattle.script_reader.specs.declared.stack.Turn.TheVariants as t
+use Rattle.script_reader.specs.declared.lexing.lexeme.Sign.{Sign}
+use Rattle.script_reader.specs.declared.lexing.lexeme.Sign.TheVariants as g
+use Rattle.script_reader.specs.declared.lexing.lexeme.Lexeme.{Lexeme}
+use Rattle.script_reader.specs.declared.lexing.lexeme.Lexeme.TheVariants as l
+use Rattle.script_reader.specs.declared.lexing.roles.Role.{Role}
+use Rattle.script_reader.specs.declared.lexing.roles.Role.TheVariants as r
+use Rattle.script_reader.specs.declared.machine.stack.View.{View}
+use Rattle.script_reader.specs.declared.machine.stack.View.TheVariants as v
+use Rattle.script_reader.specs.declared.machine.stack.Source.TheVariants as s
+use Rattle.script_reader.specs.declared.machine.stack.Now.{Now}
+use Rattle.script_reader.specs.declared.machine.stack.Now.TheVariants as n
+use Rattle.script_reader.specs.declared.machine.stack.Frame.{Frame}
+use Rattle.script_reader.specs.declared.machine.stack.Frame.TheVariants as f
+use Rattle.script_reader.specs.declared.machine.stack.Open.{Open}
+use Rattle.script_reader.specs.declared.machine.stack.Inside.{Inside}
+use Rattle.script_reader.specs.declared.machine.stack.Turn.TheVariants as t
 use Rattle.script_reader.specs.Signs.{level}
+use Rattle.script_reader.specs.Chains.{linked, part}
 use Rattle.script_reader.specs.Roles.{role_of}
-use Rattle.script_reader.specs.Expressions.{folds, made, opened, target_value, value_of, extended, rule_view, folded, start_sign, on_start, on_list, turn, choose, closed_whole, root_value}
+use Rattle.script_reader.specs.code.Expressions.{folds, made, opened, target_value, value_of, extended, rule_view, folded, start_sign, on_start, on_list, turn, choose, closed_whole, root_value}
 use Rattle.script_reader.specs.Grammar.{prefix_sign, Expression, Operand, Values, Members, operand, signed, binary, choice, number, string, truth, null, out, name, round, empty_list, list, empty_record, record_of, rule, latest_rule, rule_text, latest_text, current_text, dotted, indexed, no_value, value, no_member, member, expression_spelled, operand_spelled, values_spelled, members_spelled, expression_meant, operand_meant, values_meant, members_meant, tightness, FitsExpression, FitsOperand, FitsValues, FitsMembers}
 use Rattle.script_reader.proofs.RoleViews.{Spelt, spelt}
 use Rattle.script_reader.proofs.Turns.{In, turns, on_to, turns-then, turns-more, turns-none, turns-one}
@@ -43,11 +44,11 @@ view_of first (dotted o w) = extended (view_of first o) (k.Word w)
 view_of first (indexed o x) = extended (view_of first o) (k.Index (expression_meant x))
 view_of first o = v.Value (operand_meant o)
 
-target_value-more : (x : Expr) (path : List Key) (key : Key) → target_value x (path ++ key ∷ []) ≡ e.Part (target_value x path) key
+target_value-more : (x : Expr) (path : List Key) (key : Key) → target_value x (path ++ key ∷ []) ≡ part (target_value x path) key
 target_value-more x [] key = refl
-target_value-more x (one ∷ path) key = target_value-more (e.Part x one) path key
+target_value-more x (one ∷ path) key = target_value-more (part x one) path key
 
-pub value_extended : (view : View) (key : Key) → value_of (extended view key) ≡ e.Part (value_of view) key
+pub value_extended : (view : View) (key : Key) → value_of (extended view key) ≡ part (value_of view) key
 value_extended (v.Value x) key = refl
 value_extended (v.Target root path) key = target_value-more (root_value root) path key
 value_extended v.Latest key = refl
@@ -63,8 +64,8 @@ view_value false out = refl
 view_value true (name w is) = refl
 view_value false (name w is) = refl
 view_value first (rule w) = rule_value w (role_of w) (spelt w)
-view_value first (dotted o w) = value_extended (view_of first o) (k.Word w) ∙ ap (λ (x : Expr). e.Part x (k.Word w)) (view_value first o)
-view_value first (indexed o x) = value_extended (view_of first o) (k.Index (expression_meant x)) ∙ ap (λ (y : Expr). e.Part y (k.Index (expression_meant x))) (view_value first o)
+view_value first (dotted o w) = value_extended (view_of first o) (k.Word w) ∙ ap (λ (x : Expr). part x (k.Word w)) (view_value first o)
+view_value first (indexed o x) = value_extended (view_of first o) (k.Index (expression_meant x)) ∙ ap (λ (y : Expr). part y (k.Index (expression_meant x))) (view_value first o)
 view_value first _ = refl
 
 -- ---- an expression was read
@@ -187,7 +188,7 @@ mutual
         reads = turns-then (Starting frames room first) (Viewing a.behind a.space a.view) (Viewing b.behind b.space b.view) (expression_spelled x) (l.Sign sign ∷ expression_spelled y) a.reads
             (turns-more (Viewing a.behind a.space a.view) (Starting (opened (f.Left (expression_meant x) op) room ∷ frames) room false) (Viewing b.behind b.space b.view) (l.Sign sign) (expression_spelled y) step b.reads);
         same = λ least le. b.same least (le_below least (level op) (tightness y) le fits.1)
-            ∙ twice least frames room (expression_meant y) (f.Left (expression_meant x) op) room (e.Binary op (expression_meant x) (expression_meant y)) (is_le least (level op) le) refl;
+            ∙ twice least frames room (expression_meant y) (f.Left (expression_meant x) op) room (linked (expression_meant x) op (expression_meant y)) (is_le least (level op) le) refl;
       }
   complete_expression (choice test x y) frames room first fits takes =
       let inner = fits.2 in

@@ -9,34 +9,34 @@ use Rattle.vg_base.specs.declared.script.AssignOp.TheVariants as a
 use Rattle.vg_base.specs.declared.script.Stmt.{Stmt}
 use Rattle.vg_base.specs.declared.script.Stmt.TheVariants as st
 use Rattle.vg_base.specs.declared.script.Script.{Script}
-use Rattle.script_reader.specs.declared.lexeme.Sign.{Sign}
-use Rattle.script_reader.specs.declared.lexeme.Sign.TheVariants as g
-use Rattle.script_reader.specs.declared.lexeme.Lexeme.{Lexeme}
-use Rattle.script_reader.specs.declared.lexeme.Lexeme.TheVariants as l
-use Rattle.script_reader.specs.declared.roles.Role.{Role}
-use Rattle.script_reader.specs.declared.roles.Role.TheVariants as r
-use Rattle.script_reader.specs.declared.stack.View.{View}
-use Rattle.script_reader.specs.declared.stack.View.TheVariants as v
-use Rattle.script_reader.specs.declared.stack.Now.{Now}
-use Rattle.script_reader.specs.declared.stack.Now.TheVariants as n
-use Rattle.script_reader.specs.declared.stack.Open.{Open}
-use Rattle.script_reader.specs.declared.stack.Inside.{Inside}
-use Rattle.script_reader.specs.declared.stack.Whole.{Whole}
-use Rattle.script_reader.specs.declared.stack.Turn.{Turn}
-use Rattle.script_reader.specs.declared.stack.Turn.TheVariants as t
-use Rattle.script_reader.specs.declared.stack.Purpose.{Purpose}
-use Rattle.script_reader.specs.declared.stack.Purpose.TheVariants as p
-use Rattle.script_reader.specs.declared.stack.Phase.{Phase}
-use Rattle.script_reader.specs.declared.stack.Phase.TheVariants as ph
-use Rattle.script_reader.specs.declared.stack.Part.TheVariants as pt
-use Rattle.script_reader.specs.declared.stack.Outer.{Outer}
-use Rattle.script_reader.specs.declared.stack.State.{State}
-use Rattle.script_reader.specs.declared.statement.Closer.{Closer}
-use Rattle.script_reader.specs.declared.statement.Closer.TheVariants as c
-use Rattle.script_reader.specs.declared.statement.Beginning.TheVariants as bg
+use Rattle.script_reader.specs.declared.lexing.lexeme.Sign.{Sign}
+use Rattle.script_reader.specs.declared.lexing.lexeme.Sign.TheVariants as g
+use Rattle.script_reader.specs.declared.lexing.lexeme.Lexeme.{Lexeme}
+use Rattle.script_reader.specs.declared.lexing.lexeme.Lexeme.TheVariants as l
+use Rattle.script_reader.specs.declared.lexing.roles.Role.{Role}
+use Rattle.script_reader.specs.declared.lexing.roles.Role.TheVariants as r
+use Rattle.script_reader.specs.declared.machine.stack.View.{View}
+use Rattle.script_reader.specs.declared.machine.stack.View.TheVariants as v
+use Rattle.script_reader.specs.declared.machine.stack.Now.{Now}
+use Rattle.script_reader.specs.declared.machine.stack.Now.TheVariants as n
+use Rattle.script_reader.specs.declared.machine.stack.Open.{Open}
+use Rattle.script_reader.specs.declared.machine.stack.Inside.{Inside}
+use Rattle.script_reader.specs.declared.machine.stack.Whole.{Whole}
+use Rattle.script_reader.specs.declared.machine.stack.Turn.{Turn}
+use Rattle.script_reader.specs.declared.machine.stack.Turn.TheVariants as t
+use Rattle.script_reader.specs.declared.machine.stack.Purpose.{Purpose}
+use Rattle.script_reader.specs.declared.machine.stack.Purpose.TheVariants as p
+use Rattle.script_reader.specs.declared.machine.stack.Phase.{Phase}
+use Rattle.script_reader.specs.declared.machine.stack.Phase.TheVariants as ph
+use Rattle.script_reader.specs.declared.machine.stack.Part.TheVariants as pt
+use Rattle.script_reader.specs.declared.machine.stack.Outer.{Outer}
+use Rattle.script_reader.specs.declared.machine.stack.State.{State}
+use Rattle.script_reader.specs.declared.machine.statement.ends.Closer.{Closer}
+use Rattle.script_reader.specs.declared.machine.statement.ends.Closer.TheVariants as c
+use Rattle.script_reader.specs.declared.machine.statement.starts.Beginning.TheVariants as bg
 use Rattle.script_reader.specs.Roles.{role_of, IsName}
-use Rattle.script_reader.specs.Expressions.{value_of, begun, extended, folded, start_word, start_sign, on_start as start_turn, alone, ended, turn}
-use Rattle.script_reader.specs.Statements.{go_on, on_turn, ended_as, behind as behind_it, at, start, around, settled, listed_closing, next, branch_closing, on_else, block_closed, word_closer, closer_of, on_end, statement_of, with_value, on_value, word_beginning, beginning_of, begin, on_start, done_at, on_done, on_var, on_var_name, on_if, step, run, script_of, last_of, result_of}
+use Rattle.script_reader.specs.code.Expressions.{value_of, begun, extended, folded, start_word, start_sign, on_start as start_turn, alone, ended, turn}
+use Rattle.script_reader.specs.code.Statements.{go_on, on_turn, ended_as, behind as behind_it, at, start, around, settled, listed_closing, next, branch_closing, on_else, block_closed, word_closer, closer_of, on_end, statement_of, with_value, on_value, word_beginning, beginning_of, begin, on_start, done_at, on_done, on_var, on_var_name, on_if, step, run, script_of, last_of, result_of}
 use Rattle.script_reader.specs.Grammar.{Expression, Operand, out, name, dotted, indexed, expression_spelled, operand_spelled, expression_meant, FitsExpression, Target, stepped, target_of, Statement, Statements, End, empty, block, declared, defined, if_alone, if_else, assigned, plain, no_statement, more, semicolon, nothing, end_spelled, assignment_sign, statement_spelled, statements_spelled, statement_meant, statements_meant, lacks, ends_open, ends_in_if, AllEnd, BeginsNoBlock, FitsStatement, FitsStatements, SpellsScript}
 use Rattle.script_reader.proofs.Turns.{on_to, turns}
 use Rattle.script_reader.proofs.Folding.{folded-stays}

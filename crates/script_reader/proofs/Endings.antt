@@ -3,29 +3,29 @@ use Rattle.std.proofs.Common.{◌≡◌, ℕ, Bool, true, false, cond, List, [],
 use Rattle.vg_base.specs.declared.script.Expr.{Expr}
 use Rattle.vg_base.specs.declared.script.Stmt.{Stmt}
 use Rattle.vg_base.specs.declared.script.Stmt.TheVariants as st
-use Rattle.script_reader.specs.declared.lexeme.Sign.{Sign}
-use Rattle.script_reader.specs.declared.lexeme.Sign.TheVariants as g
-use Rattle.script_reader.specs.declared.lexeme.Lexeme.{Lexeme}
-use Rattle.script_reader.specs.declared.lexeme.Lexeme.TheVariants as l
-use Rattle.script_reader.specs.declared.stack.Now.{Now}
-use Rattle.script_reader.specs.declared.stack.Now.TheVariants as n
-use Rattle.script_reader.specs.declared.stack.Open.{Open}
-use Rattle.script_reader.specs.declared.stack.Inside.{Inside}
-use Rattle.script_reader.specs.declared.stack.Turn.{Turn}
-use Rattle.script_reader.specs.declared.stack.Turn.TheVariants as t
-use Rattle.script_reader.specs.declared.stack.Purpose.{Purpose}
-use Rattle.script_reader.specs.declared.stack.Purpose.TheVariants as p
-use Rattle.script_reader.specs.declared.stack.Phase.{Phase}
-use Rattle.script_reader.specs.declared.stack.Phase.TheVariants as ph
-use Rattle.script_reader.specs.declared.stack.Part.{Part}
-use Rattle.script_reader.specs.declared.stack.Part.TheVariants as pt
-use Rattle.script_reader.specs.declared.stack.Outer.{Outer}
-use Rattle.script_reader.specs.declared.stack.Closing.{Closing}
-use Rattle.script_reader.specs.declared.statement.Closer.{Closer}
-use Rattle.script_reader.specs.declared.statement.Closer.TheVariants as c
+use Rattle.script_reader.specs.declared.lexing.lexeme.Sign.{Sign}
+use Rattle.script_reader.specs.declared.lexing.lexeme.Sign.TheVariants as g
+use Rattle.script_reader.specs.declared.lexing.lexeme.Lexeme.{Lexeme}
+use Rattle.script_reader.specs.declared.lexing.lexeme.Lexeme.TheVariants as l
+use Rattle.script_reader.specs.declared.machine.stack.Now.{Now}
+use Rattle.script_reader.specs.declared.machine.stack.Now.TheVariants as n
+use Rattle.script_reader.specs.declared.machine.stack.Open.{Open}
+use Rattle.script_reader.specs.declared.machine.stack.Inside.{Inside}
+use Rattle.script_reader.specs.declared.machine.stack.Turn.{Turn}
+use Rattle.script_reader.specs.declared.machine.stack.Turn.TheVariants as t
+use Rattle.script_reader.specs.declared.machine.stack.Purpose.{Purpose}
+use Rattle.script_reader.specs.declared.machine.stack.Purpose.TheVariants as p
+use Rattle.script_reader.specs.declared.machine.stack.Phase.{Phase}
+use Rattle.script_reader.specs.declared.machine.stack.Phase.TheVariants as ph
+use Rattle.script_reader.specs.declared.machine.stack.Part.{Part}
+use Rattle.script_reader.specs.declared.machine.stack.Part.TheVariants as pt
+use Rattle.script_reader.specs.declared.machine.stack.Outer.{Outer}
+use Rattle.script_reader.specs.declared.machine.stack.Closing.{Closing}
+use Rattle.script_reader.specs.declared.machine.statement.ends.Closer.{Closer}
+use Rattle.script_reader.specs.declared.machine.statement.ends.Closer.TheVariants as c
 use Rattle.script_reader.specs.Roles.{role_of}
-use Rattle.script_reader.specs.Expressions.{value_of, folded, closed, view_sign, ending, on_view, alone, ended_at, ended, if_ended, turn}
-use Rattle.script_reader.specs.Statements.{at, around, closes, made, top_closes, settled, next, on_else, on_curly, on_end, statement_of, on_test, on_ended, with_value, on_turn, on_value, on_start, on_done, on_var_name, step, script_of, ended_as, last_of, script_with, result_of}
+use Rattle.script_reader.specs.code.Expressions.{value_of, folded, closed, view_sign, ending, on_view, alone, ended_at, ended, if_ended, turn}
+use Rattle.script_reader.specs.code.Statements.{at, around, closes, made, top_closes, settled, next, on_else, on_curly, on_end, statement_of, on_test, on_ended, with_value, on_turn, on_value, on_start, on_done, on_var_name, step, script_of, ended_as, last_of, script_with, result_of}
 use Rattle.script_reader.proofs.Turns.{In}
 use Rattle.script_reader.proofs.Folding.{whole}
 

@@ -3,12 +3,12 @@ use Rattle.std.proofs.Common.{◌≡◌, ℕ, ◌<◌, ◌≤◌, true, false, c
 use Rattle.std.specs.Prelude.{nat_le, ◌==◌}
 use Rattle.std.proofs.lemmas.Bool.Decides.{nat_tests}
 use Rattle.vg_base.specs.declared.script.Expr.{Expr}
-use Rattle.script_reader.specs.declared.stack.Frame.{Frame}
-use Rattle.script_reader.specs.declared.stack.Frame.TheVariants as f
-use Rattle.script_reader.specs.declared.stack.Open.{Open}
-use Rattle.script_reader.specs.declared.stack.Whole.{Whole}
+use Rattle.script_reader.specs.declared.machine.stack.Frame.{Frame}
+use Rattle.script_reader.specs.declared.machine.stack.Frame.TheVariants as f
+use Rattle.script_reader.specs.declared.machine.stack.Open.{Open}
+use Rattle.script_reader.specs.declared.machine.stack.Whole.{Whole}
 use Rattle.script_reader.specs.Signs.{level}
-use Rattle.script_reader.specs.Expressions.{opened, folds, made, top_folds, folded}
+use Rattle.script_reader.specs.code.Expressions.{opened, folds, made, top_folds, folded}
 
 -- an expression that holds so tightly may begin behind this frame
 abbrev pub TakesIn : Frame → ℕ → Type 0

@@ -4,8 +4,8 @@ use Rattle.std.specs.Prelude.{if◌then◌else◌}
 use Rattle.std.proofs.lemmas.List.{take_all}
 use Rattle.std.specs.List.{prefix_len}
 use Rattle.vg_base.specs.Characters.{is_space}
-use Rattle.script_reader.specs.declared.cutting.Cut.TheVariants.{Gap}
-use Rattle.script_reader.specs.Front.{front, other_front, word, is_word_start}
+use Rattle.script_reader.specs.declared.lexing.cutting.Cut.TheVariants.{Gap}
+use Rattle.script_reader.specs.code.Front.{front, other_front, word, is_word_start}
 
 pub front_other : (text cs : List ℕ) (c : ℕ) → text ≡ c ∷ cs → is_space c ≡ false → is_word_start c ≡ false → other_front c cs ≡ front text
 unfolding front

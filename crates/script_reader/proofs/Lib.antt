@@ -1,4 +1,5 @@
 pub mod RoleViews
+pub mod Depths
 pub mod Turns
 pub mod Folding
 pub mod Steps

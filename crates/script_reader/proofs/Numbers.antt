@@ -4,7 +4,7 @@ use Rattle.std.specs.Prelude.{fold, nat_le, if◌then◌else◌}
 use Rattle.std.proofs.lemmas.Bool.Decides.{nat_tests}
 use Rattle.std.proofs.lemmas.List.{at_drop_more}
 use Rattle.script_reader.specs.Lexemes.{digit_of, number_value, greatest}
-use Rattle.script_reader.specs.Front.{number_of}
+use Rattle.script_reader.specs.code.Front.{number_of}
 
 abbrev pub with_digit : ℕ → ℕ → ℕ
 with_digit n c = n * 10 + digit_of c

@@ -2,8 +2,8 @@
 use Rattle.std.proofs.Common.{◌≡◌, ℕ, Bool, true, false, cond, List, refl, codes}
 use Rattle.std.specs.Prelude.{bytes_eq}
 use Rattle.std.proofs.lemmas.Slice.Eq.{bytes_eq-Decides}
-use Rattle.script_reader.specs.declared.roles.Role.{Role}
-use Rattle.script_reader.specs.declared.roles.Role.TheVariants as r
+use Rattle.script_reader.specs.declared.lexing.roles.Role.{Role}
+use Rattle.script_reader.specs.declared.lexing.roles.Role.TheVariants as r
 use Rattle.script_reader.specs.Roles.{role_of, is_reserved}
 
 by_test : {A : Type 0} (b : Bool) (P : A → Type 0) (x y : A) → (b ≡ true → P x) → (b ≡ false → P y) → P (cond b x y)

@@ -2,21 +2,21 @@
 use Rattle.std.proofs.Common.{◌≡◌, ℕ, Bool, true, false, List, [], ◌∷◌, ◌++◌, Option, Some, None, refl, sym, ap, ◌∙◌}
 use Rattle.vg_base.specs.declared.script.Stmt.{Stmt}
 use Rattle.vg_base.specs.declared.script.AssignOp.{AssignOp}
-use Rattle.script_reader.specs.declared.lexeme.Sign.{Sign}
-use Rattle.script_reader.specs.declared.lexeme.Sign.TheVariants as g
-use Rattle.script_reader.specs.declared.lexeme.Lexeme.{Lexeme}
-use Rattle.script_reader.specs.declared.lexeme.Lexeme.TheVariants as l
-use Rattle.script_reader.specs.declared.stack.Now.{Now}
-use Rattle.script_reader.specs.declared.stack.Now.TheVariants as n
-use Rattle.script_reader.specs.declared.stack.Open.{Open}
-use Rattle.script_reader.specs.declared.stack.Inside.{Inside}
-use Rattle.script_reader.specs.declared.stack.Turn.{Turn}
-use Rattle.script_reader.specs.declared.stack.Turn.TheVariants as t
-use Rattle.script_reader.specs.declared.stack.Purpose.{Purpose}
-use Rattle.script_reader.specs.declared.stack.Outer.{Outer}
-use Rattle.script_reader.specs.declared.stack.State.{State}
-use Rattle.script_reader.specs.Expressions.{start_sign, on_start, view_sign, on_view, on_list, on_members, on_keyed, on_dot, past_dot, past_close, on_rule, on_meta, on_source, on_text, turn, turn_at}
-use Rattle.script_reader.specs.Statements.{with_value, on_turn, on_value, assignment, assigned, closer_of, step, go_on, run}
+use Rattle.script_reader.specs.declared.lexing.lexeme.Sign.{Sign}
+use Rattle.script_reader.specs.declared.lexing.lexeme.Sign.TheVariants as g
+use Rattle.script_reader.specs.declared.lexing.lexeme.Lexeme.{Lexeme}
+use Rattle.script_reader.specs.declared.lexing.lexeme.Lexeme.TheVariants as l
+use Rattle.script_reader.specs.declared.machine.stack.Now.{Now}
+use Rattle.script_reader.specs.declared.machine.stack.Now.TheVariants as n
+use Rattle.script_reader.specs.declared.machine.stack.Open.{Open}
+use Rattle.script_reader.specs.declared.machine.stack.Inside.{Inside}
+use Rattle.script_reader.specs.declared.machine.stack.Turn.{Turn}
+use Rattle.script_reader.specs.declared.machine.stack.Turn.TheVariants as t
+use Rattle.script_reader.specs.declared.machine.stack.Purpose.{Purpose}
+use Rattle.script_reader.specs.declared.machine.stack.Outer.{Outer}
+use Rattle.script_reader.specs.declared.machine.stack.State.{State}
+use Rattle.script_reader.specs.code.Expressions.{start_sign, on_start, view_sign, on_view, on_list, on_members, on_keyed, on_dot, past_dot, past_close, on_rule, on_meta, on_source, on_text, turn, turn_at}
+use Rattle.script_reader.specs.code.Statements.{with_value, on_turn, on_value, assignment, assigned, closer_of, step, go_on, run}
 use Rattle.script_reader.proofs.Turns.{on_to, turns}
 
 go_on_twice : (o : Option State) (f g : State → Option State) → go_on f (go_on g o) ≡ go_on (λ t. go_on f (g t)) o

@@ -5,23 +5,23 @@ use Rattle.vg_base.specs.declared.script.Expr.TheVariants as e
 use Rattle.vg_base.specs.declared.script.Key.TheVariants as k
 use Rattle.vg_base.specs.declared.script.UnOp.{UnOp}
 use Rattle.vg_base.specs.declared.script.UnOp.TheVariants as u
-use Rattle.script_reader.specs.declared.lexeme.Sign.{Sign}
-use Rattle.script_reader.specs.declared.lexeme.Sign.TheVariants as g
-use Rattle.script_reader.specs.declared.lexeme.Lexeme.{Lexeme}
-use Rattle.script_reader.specs.declared.lexeme.Lexeme.TheVariants as l
-use Rattle.script_reader.specs.declared.roles.Role.{Role}
-use Rattle.script_reader.specs.declared.roles.Role.TheVariants as r
-use Rattle.script_reader.specs.declared.stack.View.{View}
-use Rattle.script_reader.specs.declared.stack.View.TheVariants as v
-use Rattle.script_reader.specs.declared.stack.Source.{Source}
-use Rattle.script_reader.specs.declared.stack.Source.TheVariants as s
-use Rattle.script_reader.specs.declared.stack.Now.{Now}
-use Rattle.script_reader.specs.declared.stack.Now.TheVariants as n
-use Rattle.script_reader.specs.declared.stack.Frame.TheVariants as f
-use Rattle.script_reader.specs.declared.stack.Open.{Open}
-use Rattle.script_reader.specs.declared.stack.Inside.{Inside}
+use Rattle.script_reader.specs.declared.lexing.lexeme.Sign.{Sign}
+use Rattle.script_reader.specs.declared.lexing.lexeme.Sign.TheVariants as g
+use Rattle.script_reader.specs.declared.lexing.lexeme.Lexeme.{Lexeme}
+use Rattle.script_reader.specs.declared.lexing.lexeme.Lexeme.TheVariants as l
+use Rattle.script_reader.specs.declared.lexing.roles.Role.{Role}
+use Rattle.script_reader.specs.declared.lexing.roles.Role.TheVariants as r
+use Rattle.script_reader.specs.declared.machine.stack.View.{View}
+use Rattle.script_reader.specs.declared.machine.stack.View.TheVariants as v
+use Rattle.script_reader.specs.declared.machine.stack.Source.{Source}
+use Rattle.script_reader.specs.declared.machine.stack.Source.TheVariants as s
+use Rattle.script_reader.specs.declared.machine.stack.Now.{Now}
+use Rattle.script_reader.specs.declared.machine.stack.Now.TheVariants as n
+use Rattle.script_reader.specs.declared.machine.stack.Frame.TheVariants as f
+use Rattle.script_reader.specs.declared.machine.stack.Open.{Open}
+use Rattle.script_reader.specs.declared.machine.stack.Inside.{Inside}
 use Rattle.script_reader.specs.Roles.{role_of, is_name}
-use Rattle.script_reader.specs.Expressions.{opened, deeper, extended, rule_view, text_of, start_word, list_opened, record_opened, start_sign, on_start, on_list, record_closed, on_members, on_keyed, on_dot, past_dot, past_close, on_rule, on_meta, call_of, source_called, on_source, source_text, on_text, turn_at, turn}
+use Rattle.script_reader.specs.code.Expressions.{opened, deeper, extended, rule_view, text_of, start_word, list_opened, record_opened, start_sign, on_start, on_list, record_closed, on_members, on_keyed, on_dot, past_dot, past_close, on_rule, on_meta, call_of, source_called, on_source, source_text, on_text, turn_at, turn}
 use Rattle.script_reader.specs.Grammar.{prefix_sign, Operand, Members, number, string, truth, null, out, name, empty_list, empty_record, rule, latest_rule, rule_text, latest_text, current_text, dotted, no_value, no_member, member, operand_spelled, values_spelled, members_spelled, operand_meant, values_meant, members_meant, FitsOperand, FitsValues, FitsMembers, key_of}
 use Rattle.script_reader.proofs.RoleViews.{Spelt, spelt}
 use Rattle.script_reader.proofs.Complete.{rule_value}

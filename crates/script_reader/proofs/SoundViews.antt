@@ -7,24 +7,25 @@ use Rattle.vg_base.specs.declared.script.Expr.TheVariants as e
 use Rattle.vg_base.specs.declared.script.Key.{Key}
 use Rattle.vg_base.specs.declared.script.Key.TheVariants as k
 use Rattle.vg_base.specs.declared.script.BinOp.{BinOp}
-use Rattle.script_reader.specs.declared.lexeme.Sign.{Sign}
-use Rattle.script_reader.specs.declared.lexeme.Sign.TheVariants as g
-use Rattle.script_reader.specs.declared.lexeme.Lexeme.{Lexeme}
-use Rattle.script_reader.specs.declared.lexeme.Lexeme.TheVariants as l
-use Rattle.script_reader.specs.declared.roles.Role.{Role}
-use Rattle.script_reader.specs.declared.roles.Role.TheVariants as r
-use Rattle.script_reader.specs.declared.stack.View.{View}
-use Rattle.script_reader.specs.declared.stack.View.TheVariants as v
-use Rattle.script_reader.specs.declared.stack.Now.{Now}
-use Rattle.script_reader.specs.declared.stack.Now.TheVariants as n
-use Rattle.script_reader.specs.declared.stack.Frame.{Frame}
-use Rattle.script_reader.specs.declared.stack.Frame.TheVariants as f
-use Rattle.script_reader.specs.declared.stack.Open.{Open}
-use Rattle.script_reader.specs.declared.stack.Whole.{Whole}
-use Rattle.script_reader.specs.declared.stack.Turn.TheVariants as t
+use Rattle.script_reader.specs.declared.lexing.lexeme.Sign.{Sign}
+use Rattle.script_reader.specs.declared.lexing.lexeme.Sign.TheVariants as g
+use Rattle.script_reader.specs.declared.lexing.lexeme.Lexeme.{Lexeme}
+use Rattle.script_reader.specs.declared.lexing.lexeme.Lexeme.TheVariants as l
+use Rattle.script_reader.specs.declared.lexing.roles.Role.{Role}
+use Rattle.script_reader.specs.declared.lexing.roles.Role.TheVariants as r
+use Rattle.script_reader.specs.declared.machine.stack.View.{View}
+use Rattle.script_reader.specs.declared.machine.stack.View.TheVariants as v
+use Rattle.script_reader.specs.declared.machine.stack.Now.{Now}
+use Rattle.script_reader.specs.declared.machine.stack.Now.TheVariants as n
+use Rattle.script_reader.specs.declared.machine.stack.Frame.{Frame}
+use Rattle.script_reader.specs.declared.machine.stack.Frame.TheVariants as f
+use Rattle.script_reader.specs.declared.machine.stack.Open.{Open}
+use Rattle.script_reader.specs.declared.machine.stack.Whole.{Whole}
+use Rattle.script_reader.specs.declared.machine.stack.Turn.TheVariants as t
 use Rattle.script_reader.specs.Signs.{operator_of, level}
+use Rattle.script_reader.specs.Chains.{linked, part}
 use Rattle.script_reader.specs.Roles.{role_of}
-use Rattle.script_reader.specs.Expressions.{opened, deeper, value_of, extended, folds, made, top_folds, folded, close_frame, closed, left, operated, chosen, ending, called, view_sign, alone, ended, if_ended, before_else, on_view}
+use Rattle.script_reader.specs.code.Expressions.{opened, deeper, value_of, extended, folds, made, top_folds, folded, close_frame, closed, left, operated, chosen, ending, called, view_sign, alone, ended, if_ended, before_else, on_view}
 use Rattle.script_reader.specs.Grammar.{Expression, Operand, operand, signed, binary, choice, round, list, record_of, dotted, indexed, value, member, expression_spelled, operand_spelled, values_spelled, members_spelled, expression_meant, operand_meant, values_meant, members_meant, tightness, FitsExpression, Target, stepped, target_of}
 use Rattle.script_reader.proofs.Turns.{In}
 use Rattle.script_reader.proofs.Folding.{TakesIn, Takes, whole}
@@ -144,7 +145,7 @@ folds_one base least (f.Left left op) outside frames room y text h q =
       text_is = q.text_is ∙ longer q.before o.0 o.1 (expression_spelled q.tree) o.2 ∙ ap (λ (ys : List Lexeme). o.0 ++ (ys ++ expression_spelled q.tree)) d.3 ∙ ap (λ (ys : List Lexeme). o.0 ++ ys) (append_assoc (expression_spelled d.1) (l.Sign d.2 ∷ []) (expression_spelled q.tree));
       outer = o.3;
       fits = (d.6, q.takes, subst (λ m. FitsExpression m d.1) (sym d.0) d.5, subst (λ m. FitsExpression m q.tree) (sym d.0) q.fits);
-      meant = ap (λ (z : Expr). e.Binary op z y) d.7 ∙ ap (e.Binary op (expression_meant d.1)) q.meant;
+      meant = ap (λ (z : Expr). linked z op y) d.7 ∙ ap (linked (expression_meant d.1) op) q.meant;
       takes = d.8;
       least_is = below least (level op) h;
     }
@@ -206,14 +207,14 @@ as_extended v.Latest o key target h q = tt
 pub shows_dotted : (view : View) (o : Operand) (w : List ℕ) → Shows view o → Shows (extended view (k.Word w)) (dotted o w)
 unfolding operand_meant
 shows_dotted view o w q = record {
-  meant = value_extended view (k.Word w) ∙ ap (λ (x : Expr). e.Part x (k.Word w)) q.meant;
+  meant = value_extended view (k.Word w) ∙ ap (λ (x : Expr). part x (k.Word w)) q.meant;
   as_is = as_extended view o (k.Word w) (dotted o w) refl q.as_is;
 }
 
 shows_indexed : (view : View) (o : Operand) (x : Expression) (y : Expr) → y ≡ expression_meant x → Shows view o → Shows (extended view (k.Index y)) (indexed o x)
 unfolding operand_meant
 shows_indexed view o x y h q = record {
-  meant = value_extended view (k.Index y) ∙ ap (λ (z : Expr). e.Part z (k.Index y)) q.meant ∙ ap (λ (z : Expr). e.Part (operand_meant o) (k.Index z)) h;
+  meant = value_extended view (k.Index y) ∙ ap (λ (z : Expr). part z (k.Index y)) q.meant ∙ ap (λ (z : Expr). part (operand_meant o) (k.Index z)) h;
   as_is = as_extended view o (k.Index y) (indexed o x) (ap (λ (z : Expr). stepped (target_of o) (k.Index z)) (sym h)) q.as_is;
 }
 

@@ -7,26 +7,26 @@ use Rattle.vg_base.specs.declared.script.Root.TheVariants as root
 use Rattle.vg_base.specs.declared.script.BinOp.{BinOp}
 use Rattle.vg_base.specs.declared.script.UnOp.{UnOp}
 use Rattle.vg_base.specs.declared.script.UnOp.TheVariants as u
-use Rattle.script_reader.specs.declared.lexeme.Sign.{Sign}
-use Rattle.script_reader.specs.declared.lexeme.Sign.TheVariants as g
-use Rattle.script_reader.specs.declared.lexeme.Lexeme.{Lexeme}
-use Rattle.script_reader.specs.declared.lexeme.Lexeme.TheVariants as l
-use Rattle.script_reader.specs.declared.roles.Role.{Role}
-use Rattle.script_reader.specs.declared.roles.Role.TheVariants as r
-use Rattle.script_reader.specs.declared.stack.View.{View}
-use Rattle.script_reader.specs.declared.stack.View.TheVariants as v
-use Rattle.script_reader.specs.declared.stack.Source.{Source}
-use Rattle.script_reader.specs.declared.stack.Source.TheVariants as s
-use Rattle.script_reader.specs.declared.stack.Now.TheVariants as n
-use Rattle.script_reader.specs.declared.stack.Frame.TheVariants as f
-use Rattle.script_reader.specs.declared.stack.Open.{Open}
-use Rattle.script_reader.specs.declared.stack.Inside.{Inside}
-use Rattle.script_reader.specs.declared.stack.Whole.{Whole}
-use Rattle.script_reader.specs.declared.stack.Turn.{Turn}
-use Rattle.script_reader.specs.declared.stack.Turn.TheVariants as t
+use Rattle.script_reader.specs.declared.lexing.lexeme.Sign.{Sign}
+use Rattle.script_reader.specs.declared.lexing.lexeme.Sign.TheVariants as g
+use Rattle.script_reader.specs.declared.lexing.lexeme.Lexeme.{Lexeme}
+use Rattle.script_reader.specs.declared.lexing.lexeme.Lexeme.TheVariants as l
+use Rattle.script_reader.specs.declared.lexing.roles.Role.{Role}
+use Rattle.script_reader.specs.declared.lexing.roles.Role.TheVariants as r
+use Rattle.script_reader.specs.declared.machine.stack.View.{View}
+use Rattle.script_reader.specs.declared.machine.stack.View.TheVariants as v
+use Rattle.script_reader.specs.declared.machine.stack.Source.{Source}
+use Rattle.script_reader.specs.declared.machine.stack.Source.TheVariants as s
+use Rattle.script_reader.specs.declared.machine.stack.Now.TheVariants as n
+use Rattle.script_reader.specs.declared.machine.stack.Frame.TheVariants as f
+use Rattle.script_reader.specs.declared.machine.stack.Open.{Open}
+use Rattle.script_reader.specs.declared.machine.stack.Inside.{Inside}
+use Rattle.script_reader.specs.declared.machine.stack.Whole.{Whole}
+use Rattle.script_reader.specs.declared.machine.stack.Turn.{Turn}
+use Rattle.script_reader.specs.declared.machine.stack.Turn.TheVariants as t
 use Rattle.script_reader.specs.Signs.{operator_of, level}
 use Rattle.script_reader.specs.Roles.{role_of, is_name, IsName}
-use Rattle.script_reader.specs.Expressions.{opened, value_of, extended, rule_view, text_of, folded, start_word, start_sign, on_start, close_frame, closed, closed_whole, left, choose, operated, chosen, ending, view_sign, on_view, on_list, on_members, on_keyed, on_dot, past_dot, past_close, on_rule, on_meta, on_source, on_text, turn}
+use Rattle.script_reader.specs.code.Expressions.{opened, value_of, extended, rule_view, text_of, folded, start_word, start_sign, on_start, close_frame, closed, closed_whole, left, choose, operated, chosen, ending, view_sign, on_view, on_list, on_members, on_keyed, on_dot, past_dot, past_close, on_rule, on_meta, on_source, on_text, turn}
 use Rattle.script_reader.specs.Grammar.{prefix_sign, truth_word, key_of}
 use Rattle.script_reader.proofs.Turns.{In}
 use Rattle.script_reader.proofs.Folding.{whole}

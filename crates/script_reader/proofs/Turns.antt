@@ -1,12 +1,12 @@
 -- Several lexemes of an expression, one after another.
 use Rattle.std.proofs.Common.{◌≡◌, ℕ, List, [], ◌∷◌, ◌++◌, Option, Some, None, refl, ap, ◌∙◌}
-use Rattle.script_reader.specs.declared.lexeme.Lexeme.{Lexeme}
-use Rattle.script_reader.specs.declared.stack.Open.{Open}
-use Rattle.script_reader.specs.declared.stack.Now.{Now}
-use Rattle.script_reader.specs.declared.stack.Inside.{Inside}
-use Rattle.script_reader.specs.declared.stack.Turn.{Turn}
-use Rattle.script_reader.specs.declared.stack.Turn.TheVariants as t
-use Rattle.script_reader.specs.Expressions.{turn}
+use Rattle.script_reader.specs.declared.lexing.lexeme.Lexeme.{Lexeme}
+use Rattle.script_reader.specs.declared.machine.stack.Open.{Open}
+use Rattle.script_reader.specs.declared.machine.stack.Now.{Now}
+use Rattle.script_reader.specs.declared.machine.stack.Inside.{Inside}
+use Rattle.script_reader.specs.declared.machine.stack.Turn.{Turn}
+use Rattle.script_reader.specs.declared.machine.stack.Turn.TheVariants as t
+use Rattle.script_reader.specs.code.Expressions.{turn}
 
 abbrev pub In : List Open → ℕ → Now → Inside
 In frames room now = record { frames = frames; room = room; now = now }

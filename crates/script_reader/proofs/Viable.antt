@@ -6,32 +6,33 @@ use Rattle.vg_base.specs.declared.script.Key.TheVariants as k
 use Rattle.vg_base.specs.declared.script.Stmt.{Stmt}
 use Rattle.vg_base.specs.declared.script.Stmt.TheVariants as st
 use Rattle.vg_base.specs.declared.script.Script.{Script}
-use Rattle.script_reader.specs.declared.lexeme.Sign.TheVariants as g
-use Rattle.script_reader.specs.declared.lexeme.Lexeme.{Lexeme}
-use Rattle.script_reader.specs.declared.lexeme.Lexeme.TheVariants as l
-use Rattle.script_reader.specs.declared.stack.View.{View}
-use Rattle.script_reader.specs.declared.stack.View.TheVariants as v
-use Rattle.script_reader.specs.declared.stack.Source.{Source}
-use Rattle.script_reader.specs.declared.stack.Source.TheVariants as src
-use Rattle.script_reader.specs.declared.stack.Now.{Now}
-use Rattle.script_reader.specs.declared.stack.Now.TheVariants as n
-use Rattle.script_reader.specs.declared.stack.Frame.{Frame}
-use Rattle.script_reader.specs.declared.stack.Frame.TheVariants as f
-use Rattle.script_reader.specs.declared.stack.Open.{Open}
-use Rattle.script_reader.specs.declared.stack.Inside.{Inside}
-use Rattle.script_reader.specs.declared.stack.Turn.TheVariants as t
-use Rattle.script_reader.specs.declared.stack.Purpose.{Purpose}
-use Rattle.script_reader.specs.declared.stack.Purpose.TheVariants as p
-use Rattle.script_reader.specs.declared.stack.Phase.{Phase}
-use Rattle.script_reader.specs.declared.stack.Phase.TheVariants as ph
-use Rattle.script_reader.specs.declared.stack.Part.{Part}
-use Rattle.script_reader.specs.declared.stack.Part.TheVariants as pt
-use Rattle.script_reader.specs.declared.stack.Outer.{Outer}
-use Rattle.script_reader.specs.declared.stack.State.{State}
-use Rattle.script_reader.specs.declared.stack.Closing.{Closing}
+use Rattle.script_reader.specs.declared.lexing.lexeme.Sign.TheVariants as g
+use Rattle.script_reader.specs.declared.lexing.lexeme.Lexeme.{Lexeme}
+use Rattle.script_reader.specs.declared.lexing.lexeme.Lexeme.TheVariants as l
+use Rattle.script_reader.specs.declared.machine.stack.View.{View}
+use Rattle.script_reader.specs.declared.machine.stack.View.TheVariants as v
+use Rattle.script_reader.specs.declared.machine.stack.Source.{Source}
+use Rattle.script_reader.specs.declared.machine.stack.Source.TheVariants as src
+use Rattle.script_reader.specs.declared.machine.stack.Now.{Now}
+use Rattle.script_reader.specs.declared.machine.stack.Now.TheVariants as n
+use Rattle.script_reader.specs.declared.machine.stack.Frame.{Frame}
+use Rattle.script_reader.specs.declared.machine.stack.Frame.TheVariants as f
+use Rattle.script_reader.specs.declared.machine.stack.Open.{Open}
+use Rattle.script_reader.specs.declared.machine.stack.Inside.{Inside}
+use Rattle.script_reader.specs.declared.machine.stack.Turn.TheVariants as t
+use Rattle.script_reader.specs.declared.machine.stack.Purpose.{Purpose}
+use Rattle.script_reader.specs.declared.machine.stack.Purpose.TheVariants as p
+use Rattle.script_reader.specs.declared.machine.stack.Phase.{Phase}
+use Rattle.script_reader.specs.declared.machine.stack.Phase.TheVariants as ph
+use Rattle.script_reader.specs.declared.machine.stack.Part.{Part}
+use Rattle.script_reader.specs.declared.machine.stack.Part.TheVariants as pt
+use Rattle.script_reader.specs.declared.machine.stack.Outer.{Outer}
+use Rattle.script_reader.specs.declared.machine.stack.State.{State}
+use Rattle.script_reader.specs.declared.machine.stack.Closing.{Closing}
 use Rattle.script_reader.specs.Signs.{level}
-use Rattle.script_reader.specs.Expressions.{opened, value_of, extended, text_of, folded, ended, turn, begun}
-use Rattle.script_reader.specs.Statements.{at, start, around, settled, listed_closing, next, block_closed, on_curly, with_value, step, go_on, run, script_of, result_of}
+use Rattle.script_reader.specs.Chains.{linked}
+use Rattle.script_reader.specs.code.Expressions.{opened, value_of, extended, text_of, folded, ended, turn, begun}
+use Rattle.script_reader.specs.code.Statements.{at, start, around, settled, listed_closing, next, block_closed, on_curly, with_value, step, go_on, run, script_of, result_of}
 use Rattle.script_reader.specs.Grammar.{SpellsScript}
 use Rattle.script_reader.proofs.Turns.{In, turns, turns-more, turns-none}
 use Rattle.script_reader.proofs.Folding.{folded-stays, folded-on, is_le}
@@ -82,7 +83,7 @@ closable_in (f.Member done key) outside others space y frames room view again q 
     after _ (Valued others outside (e.Record (done ++ (key, y) ∷ []))) (l.Sign g.CurlyClose) (turn_ending frames room view g.CurlyClose _ refl stays ∙ close_record others outside space done key y)
     (again outside (e.Record (done ++ (key, y) ∷ [])) others outside (v.Value (e.Record (done ++ (key, y) ∷ []))) refl)
 closable_in (f.Signed op) outside others space y frames room view again q = again outside (e.Unary op y) frames room view (q ∙ folded-on 0 (f.Signed op) outside others space y refl)
-closable_in (f.Left left op) outside others space y frames room view again q = again outside (e.Binary op left y) frames room view (q ∙ folded-on 0 (f.Left left op) outside others space y (is_le 0 (level op) (omega arith)))
+closable_in (f.Left left op) outside others space y frames room view again q = again outside (linked left op y) frames room view (q ∙ folded-on 0 (f.Left left op) outside others space y (is_le 0 (level op) (omega arith)))
 closable_in (f.ChooseNo test positive) outside others space y frames room view again q = again outside (e.Choose test positive y) frames room view (q ∙ folded-on 0 (f.ChooseNo test positive) outside others space y refl)
 closable_in (f.ChooseYes test) outside others space y frames room view again q =
     let stays = q ∙ folded-stays 0 (opened (f.ChooseYes test) outside ∷ others) space y refl in

@@ -1,6 +1,7 @@
 -- The grammar of scripts (this project's profile of ECMA-262; the forms of `rules` and `meta` are those of SISR 1.0): its
 -- syntax trees, how each is spelled in lexemes, what it means, and where it may stand.
 use Rattle.std.specs.Prelude.{◌≡◌, ◌≢◌, ℕ, suc, ℤ, ◌<◌, ◌≤◌, Bool, true, false, List, [], ◌∷◌, ◌++◌, Option, Some, None, codes}
+use Rattle.vg_base.specs.Limits.{nesting}
 use Rattle.vg_base.specs.declared.script.Expr.{Expr}
 use Rattle.vg_base.specs.declared.script.Expr.TheVariants as e
 use Rattle.vg_base.specs.declared.script.Key.{Key}
@@ -15,12 +16,13 @@ use Rattle.vg_base.specs.declared.script.AssignOp.TheVariants as a
 use Rattle.vg_base.specs.declared.script.Stmt.{Stmt}
 use Rattle.vg_base.specs.declared.script.Stmt.TheVariants as st
 use Rattle.vg_base.specs.declared.script.Script.{Script}
-use Rattle.script_reader.specs.declared.lexeme.Sign.{Sign}
-use Rattle.script_reader.specs.declared.lexeme.Sign.TheVariants as g
-use Rattle.script_reader.specs.declared.lexeme.Lexeme.{Lexeme}
-use Rattle.script_reader.specs.declared.lexeme.Lexeme.TheVariants as l
+use Rattle.script_reader.specs.declared.lexing.lexeme.Sign.{Sign}
+use Rattle.script_reader.specs.declared.lexing.lexeme.Sign.TheVariants as g
+use Rattle.script_reader.specs.declared.lexing.lexeme.Lexeme.{Lexeme}
+use Rattle.script_reader.specs.declared.lexing.lexeme.Lexeme.TheVariants as l
 use Rattle.script_reader.specs.Signs.{operator_of, level}
 use Rattle.script_reader.specs.Roles.{IsName}
+use Rattle.script_reader.specs.Chains.{linked, part}
 
 -- ---- expressions
 
@@ -124,7 +126,7 @@ unfoldable mutual
   pub expression_meant : Expression → Expr
   expression_meant (operand o) = operand_meant o
   expression_meant (signed op x) = e.Unary op (expression_meant x)
-  expression_meant (binary sign op is x y) = e.Binary op (expression_meant x) (expression_meant y)
+  expression_meant (binary sign op is x y) = linked (expression_meant x) op (expression_meant y)
   expression_meant (choice test x y) = e.Choose (expression_meant test) (expression_meant x) (expression_meant y)
 
   pub operand_meant : Operand → Expr
@@ -144,8 +146,8 @@ unfoldable mutual
   operand_meant (rule_text w) = e.RuleText w
   operand_meant latest_text = e.LatestText
   operand_meant current_text = e.CurrentText
-  operand_meant (dotted o w) = e.Part (operand_meant o) (k.Word w)
-  operand_meant (indexed o x) = e.Part (operand_meant o) (k.Index (expression_meant x))
+  operand_meant (dotted o w) = part (operand_meant o) (k.Word w)
+  operand_meant (indexed o x) = part (operand_meant o) (k.Index (expression_meant x))
 
   pub values_meant : Values → List Expr
   values_meant no_value = []
@@ -329,6 +331,6 @@ unfoldable mutual
 -- the lexemes are a script, and this is its meaning
 pub record SpellsScript (lexemes : List Lexeme) (script : Script) : Type 0 where
   pub tree : Statements
-  pub fits : FitsStatements 64 tree
+  pub fits : FitsStatements nesting tree
   pub spelled : lexemes ≡ statements_spelled tree
   pub meant : script ≡ record { body = statements_meant tree }

@@ -1,12 +1,12 @@
 -- Laws of reading.
-use Rattle.std.specs.Prelude.{◌≡◌, ℕ, ◌⊎◌, List, Some}
+use Rattle.std.specs.Prelude.{◌≡◌, ℕ, List, Some}
 use Rattle.vg_base.specs.declared.script.Script.{Script}
-use Rattle.script_reader.specs.declared.lexeme.Lexeme.{Lexeme}
-use Rattle.script_reader.specs.declared.stack.State.{State}
+use Rattle.script_reader.specs.declared.lexing.lexeme.Lexeme.{Lexeme}
+use Rattle.script_reader.specs.declared.machine.stack.State.{State}
 use Rattle.script_reader.specs.Grammar.{SpellsScript}
-use Rattle.script_reader.specs.Statements.{start, run, result_of}
-use Rattle.script_reader.specs.Lexemes.{Text}
-use Rattle.script_reader.specs.Reading.{IsScript, Begins, FirstUnfit}
+use Rattle.script_reader.specs.code.Statements.{start, run, result_of}
+use Rattle.script_reader.specs.Reading.{IsScript, Begins, FirstUnfit, Reads}
+use Rattle.script_reader.specs.Answers.{Answer, script_answer}
 
 -- the machine reads this script from these lexemes
 abbrev pub ReadsAs : List Lexeme → Script → Type 0
@@ -21,21 +21,22 @@ Sound = (found : List Lexeme) (script : Script) → ReadsAs found script → Spe
 abbrev pub Viable : Type 0
 Viable = (found : List Lexeme) (s : State) → run start found ≡ Some s → Begins found
 
--- a text is a script or has a first place that fits none
-abbrev pub HasAnswer : Text → Type 0
-HasAnswer text = ((script : Script) × IsScript text script) ⊎ ((at : ℕ) × FirstUnfit text at)
-
+-- the answer of each text is one that `Reads` allows
 abbrev pub EachHasAnswer : Type 0
-EachHasAnswer = (text : Text) → HasAnswer text
+EachHasAnswer = (text : List ℕ) → Reads text (script_answer text)
 
--- it is one script at most
+-- and no other is
+abbrev pub OneAnswer : Type 0
+OneAnswer = (text : List ℕ) (x y : Answer) → Reads text x → Reads text y → x ≡ y
+
+-- a text is one script at most
 abbrev pub OneScript : Type 0
-OneScript = (text : Text) (x y : Script) → IsScript text x → IsScript text y → x ≡ y
+OneScript = (text : List ℕ) (x y : Script) → IsScript text x → IsScript text y → x ≡ y
 
--- it has one such place at most
+-- it has one first place that fits none at most
 abbrev pub OnePlace : Type 0
-OnePlace = (text : Text) (m n : ℕ) → FirstUnfit text m → FirstUnfit text n → m ≡ n
+OnePlace = (text : List ℕ) (m n : ℕ) → FirstUnfit text m → FirstUnfit text n → m ≡ n
 
 -- and not both
 abbrev pub NotBoth : Type 0
-NotBoth = (text : Text) (script : Script) (at : ℕ) → IsScript text script → FirstUnfit text at → ⊥
+NotBoth = (text : List ℕ) (script : Script) (at : ℕ) → IsScript text script → FirstUnfit text at → ⊥

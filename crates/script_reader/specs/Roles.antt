@@ -1,8 +1,8 @@
 -- Words: which are reserved, and which mean something of their own.
 use Rattle.std.specs.Prelude.{◌≡◌, ℕ, Bool, true, false, nat_lt, List, [], ◌∷◌, codes, bytes_eq, if◌then◌else◌}
 use Rattle.std.specs.List.{list_any}
-use Rattle.script_reader.specs.declared.roles.Role.{Role}
-use Rattle.script_reader.specs.declared.roles.Role.TheVariants as r
+use Rattle.script_reader.specs.declared.lexing.roles.Role.{Role}
+use Rattle.script_reader.specs.declared.lexing.roles.Role.TheVariants as r
 
 -- a character of ASCII
 abbrev pub is_small : ℕ → Bool

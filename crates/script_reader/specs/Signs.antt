@@ -2,12 +2,8 @@
 use Rattle.std.specs.Prelude.{ℕ, List, Option, Some, None, codes}
 use Rattle.vg_base.specs.declared.script.BinOp.{BinOp}
 use Rattle.vg_base.specs.declared.script.BinOp.TheVariants as b
-use Rattle.vg_base.specs.declared.script.UnOp.{UnOp}
-use Rattle.vg_base.specs.declared.script.UnOp.TheVariants as u
-use Rattle.vg_base.specs.declared.script.AssignOp.{AssignOp}
-use Rattle.vg_base.specs.declared.script.AssignOp.TheVariants as a
-use Rattle.script_reader.specs.declared.lexeme.Sign.{Sign}
-use Rattle.script_reader.specs.declared.lexeme.Sign.TheVariants as g
+use Rattle.script_reader.specs.declared.lexing.lexeme.Sign.{Sign}
+use Rattle.script_reader.specs.declared.lexing.lexeme.Sign.TheVariants as g
 
 -- how a sign is written
 abbrev pub sign_text : Sign → List ℕ
@@ -60,20 +56,6 @@ operator_of g.Times = Some b.Mul
 operator_of g.Over = Some b.Div
 operator_of g.Rem = Some b.Rem
 operator_of _ = None
-
--- an operator before its operand
-abbrev pub prefix_of : Sign → Option UnOp
-prefix_of g.Minus = Some u.Neg
-prefix_of g.Plus = Some u.Plus
-prefix_of g.Not = Some u.Not
-prefix_of _ = None
-
--- what assigns
-abbrev pub assignment_of : Sign → Option AssignOp
-assignment_of g.Set = Some a.Set
-assignment_of g.AddTo = Some a.Add
-assignment_of g.TakeFrom = Some a.Sub
-assignment_of _ = None
 
 -- the ladder of operators, from the loosest to the tightest
 abbrev pub level : BinOp → ℕ

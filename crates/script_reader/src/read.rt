@@ -1,17 +1,22 @@
 //! Reading a whole script.
 ghost use Rattle.std.specs.Prelude.{◌≡◌, ◌<◌, ◌≤◌, ◌^◌, IfOk, length, drop};
-ghost use Rattle.script_reader.specs.Advances.{advance, further, ending};
-ghost use Rattle.script_reader.specs.Front.{front};
+ghost use Rattle.script_reader.specs.code.Advances.{advance, further, ending};
+ghost use Rattle.script_reader.specs.code.Front.{front};
+ghost use Rattle.script_reader.specs.Answers.{script_answer};
+ghost use Rattle.script_reader.specs.Depth.{script_depth};
 ghost use Rattle.script_reader.specs.Reading.{Reads};
-ghost use Rattle.script_reader.specs.Statements.{step, result_of};
+ghost use Rattle.vg_base.specs.Refusals.{Gives, Meets};
+ghost use Rattle.vg_base.specs.declared.refused.Refused.TheVariants as refused;
+ghost use Rattle.script_reader.specs.code.Statements.{step, result_of};
 
-use crate::cutting::{Cut, front_at};
-use crate::lexeme::Lexeme;
-use crate::refused::ScriptRefused;
-use crate::stack::State;
-use crate::statement::{result_of, start, step};
+use crate::lexing::cutting::{Cut, front_at};
+use crate::lexing::lexeme::Lexeme;
+use crate::machine::stack::State;
+use crate::machine::statement::settling::start;
+use crate::machine::statement::{result_of, step};
+use crate::refused::{ScriptRefused, ScriptSyntax};
 use std::alloc::Global;
-use vg_base::{Memory, Script, Text};
+use vg_base::{Memory, Refused, Script, Text};
 
 /// What comes of the text at a place.
 #[derive(Drop)]
@@ -27,7 +32,9 @@ enum Advance {
 /// Reads the script of a tag. `Memory` comes where memory is wanted and isn't there; no contract says when that is.
 pub fn read_script(alloc: Global, text: &Text) -> Result<Script, ScriptRefused>
     // What is read is spelled so, and no other script is; a refusal has the place of the first lexeme that fits no script.
-    ensures { Reads text.now result }
+    ensures reads { Meets result (Reads text.now) }
+    ensures gives { Gives result (script_answer text.now) }
+    ensures shallow { IfOk result (λ script. script_depth script < 600) }
 {
     let characters = text.characters(alloc)?;
     read_characters(alloc, characters.as_slice())
@@ -36,7 +43,9 @@ pub fn read_script(alloc: Global, text: &Text) -> Result<Script, ScriptRefused>
 /// Reads the characters of a script.
 fn read_characters(alloc: Global, text: &[char]) -> Result<Script, ScriptRefused>
     requires { length text.now < 2 ^ 63 }
-    ensures { Reads text.now result }
+    ensures reads { Meets result (Reads text.now) }
+    ensures gives { Gives result (script_answer text.now) }
+    ensures shallow { IfOk result (λ script. script_depth script < 600) }
 {
     let mut state = start(alloc);
     let mut at = 0usize;
@@ -47,9 +56,16 @@ fn read_characters(alloc: Global, text: &[char]) -> Result<Script, ScriptRefused
                 at += len;
             }
             Advance::Read(script) => return Ok(script),
-            Advance::Unfit => return Err(ScriptRefused::ScriptSyntax { at: at as u64 }),
+            Advance::Unfit => return Err(unfit_at(at)),
         }
     }
+}
+
+/// What stands at this place fits no script.
+fn unfit_at(at: usize) -> ScriptRefused
+    ensures { result ≡ refused.Fault (record { at = at }) }
+{
+    Refused::Fault(ScriptSyntax { at: at as u64 })
 }
 
 /// What comes of the text at a place.

@@ -1,23 +1,19 @@
 //! Why a text is no script.
-ghost use Rattle.std.specs.Prelude.{◌≡◌};
-ghost use Rattle.script_reader.specs.declared.refused.ScriptRefused.TheVariants as refused;
 
-use thiserror::Error;
-use vg_base::Memory;
+use std::fmt;
+use vg_base::Refused;
 
-#[derive(Debug, Drop, Error)]
-pub enum ScriptRefused {
-    /// The place, in characters from 0, of the first lexeme that fits no script, or the end of a text that ends too early.
-    #[error("character {at} fits no script")]
-    ScriptSyntax { at: u64 },
-    #[error("out of memory")]
-    Memory,
+/// The place, in characters from 0, of the first lexeme that fits no script, or the end of a text that ends too early.
+#[derive(Clone, Copy, Debug, PartialEq, Eq)]
+pub struct ScriptSyntax {
+    pub at: u64,
 }
 
-impl From<Memory> for ScriptRefused {
-    ghost from_gives = { λ _ e. e ≡ refused.Memory };
-
-    fn from(_e: Memory) -> ScriptRefused {
-        ScriptRefused::Memory
+impl fmt::Display for ScriptSyntax {
+    fn fmt<W: fmt::Write>(&self, f: &mut fmt::Formatter<W>) -> fmt::Result {
+        write!(f, "character {} fits no script", self.at)
     }
 }
+
+/// Why a text gives no script.
+pub type ScriptRefused = Refused<ScriptSyntax>;

@@ -3,7 +3,7 @@ mod printer;
 mod refusals;
 mod scripts;
 
-use crate::{ScriptRefused, read_script};
+use crate::{ScriptRefused, ScriptSyntax, read_script};
 use printer::printed;
 use std::alloc::{Alloc, Global};
 use std::process::Abort;
@@ -34,7 +34,7 @@ fn is_read(rt: &impl Ground, text: &str) -> bool {
 /// Whether this is the place of what fits no script.
 fn refuses(rt: &impl Ground, text: &str, place: u64) -> bool {
     match answer(rt, text) {
-        Err(ScriptRefused::ScriptSyntax { at }) => at == place,
+        Err(ScriptRefused::Fault(ScriptSyntax { at })) => at == place,
         _ => false,
     }
 }

@@ -114,12 +114,16 @@ fn expression(rt: &impl Ground, line: &mut String, value: &Expr) {
             expression(rt, line, no.get());
             put(rt, line, ")");
         }
-        Expr::Binary { op, left, right } => {
-            put(rt, line, "(");
-            expression(rt, line, left.get());
-            put(rt, line, operator(*op));
-            expression(rt, line, right.get());
-            put(rt, line, ")");
+        Expr::Chain { first, more } => {
+            for _link in more.as_slice() {
+                put(rt, line, "(");
+            }
+            expression(rt, line, first.get());
+            for link in more.as_slice() {
+                put(rt, line, operator(link.0));
+                expression(rt, line, &link.1);
+                put(rt, line, ")");
+            }
         }
         Expr::Unary { op, inner } => {
             put(rt, line, "(");
@@ -127,9 +131,11 @@ fn expression(rt: &impl Ground, line: &mut String, value: &Expr) {
             expression(rt, line, inner.get());
             put(rt, line, ")");
         }
-        Expr::Part { inner, key: step } => {
+        Expr::Part { inner, path } => {
             expression(rt, line, inner.get());
-            key(rt, line, step.get());
+            for step in path.as_slice() {
+                key(rt, line, step);
+            }
         }
         Expr::Rule(name) => {
             put(rt, line, "rule ");
