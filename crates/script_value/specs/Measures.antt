@@ -1,7 +1,8 @@
 -- How large a value is. Each measure is given for one level, with what it finds in the inner values in their places.
-use Rattle.std.specs.Prelude.{ℕ, ◌+◌, max, sum, List, [], ◌∷◌, map}
+use Rattle.std.specs.Prelude.{ℕ, ◌+◌, ◌-◌, ◌^◌, min, max, sum, List, [], ◌∷◌, map}
 use Rattle.std.specs.Map.{keys_of, values_of}
 use Rattle.vg_base.specs.Characters.{byte_len}
+use Rattle.script_value.specs.declared.measures.Measures.{Measures}
 use Rattle.script_value.specs.declared.value.Value.{Value, fold-Value}
 use Rattle.script_value.specs.declared.value.Value.TheOpen.{Value-F}
 
@@ -51,3 +52,56 @@ depth_of_level scalar = 1
 -- one more than the deepest part; a value without parts is one deep
 abbrev pub depth : Value → ℕ
 depth = fold-Value ℕ depth_of_level
+
+-- ---- all four at once, each counted up to the greatest number of 64 bits
+
+abbrev pub capped : ℕ → ℕ
+capped n = min n (2 ^ 64 - 1)
+
+abbrev pub measures : Value → Measures
+measures value = record {
+  text = capped (longest_text value);
+  values = capped (held value);
+  bytes = capped (text_bytes value);
+  depth = capped (depth value);
+}
+
+-- of the items of a list together, and of the members of a record
+abbrev pub of_items : List Value → Measures
+of_items values = record {
+  text = capped (largest (map longest_text values));
+  values = capped (sum (map held values));
+  bytes = capped (sum (map text_bytes values));
+  depth = capped (largest (map depth values));
+}
+
+abbrev pub of_members : List (List ℕ × Value) → Measures
+of_members members = record {
+  text = capped (largest (map longest_text (values_of members)));
+  values = capped (sum (map held (values_of members)));
+  bytes = capped (key_bytes members + sum (map text_bytes (values_of members)));
+  depth = capped (largest (map depth (values_of members)));
+}
+
+abbrev pub no_parts : Measures
+no_parts = record { text = 0; values = 0; bytes = 0; depth = 0 }
+
+abbrev pub of_text : ℕ → Measures
+of_text bytes = record { text = bytes; values = 1; bytes = bytes; depth = 1 }
+
+-- of some parts and more of them
+abbrev pub both : Measures → Measures → Measures
+both these those = record {
+  text = max these.text those.text;
+  values = capped (these.values + those.values);
+  bytes = capped (these.bytes + those.bytes);
+  depth = max these.depth those.depth;
+}
+
+-- of some parts and a key
+abbrev pub with_key : List ℕ → Measures → Measures
+with_key key parts = record parts { bytes = capped (parts.bytes + byte_len key) }
+
+-- of the list or the record that has these parts
+abbrev pub around : Measures → Measures
+around parts = record parts { values = capped (parts.values + 1); depth = capped (parts.depth + 1) }

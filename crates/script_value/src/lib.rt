@@ -10,10 +10,11 @@ mod truth;
 mod value;
 
 pub use as_json::to_json;
-pub use laws::texts_tell_values;
+pub use laws::{measured_in_parts, texts_tell_values};
 pub use limits::Limit;
+pub use measures::{Measures, of_members};
 pub use truth::{is_true, same};
-pub use value::Value;
+pub use value::{Value, put_member};
 
 #[cfg(test)]
 mod tests;

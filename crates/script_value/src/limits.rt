@@ -1,7 +1,9 @@
 ghost use Rattle.std.specs.Prelude.{◌≡◌, ◌↔◌, IsNone};
-ghost use Rattle.script_value.specs.Limits.{first_limit, IsWithinLimits};
+ghost use Rattle.script_value.specs.Limits.{first_limit, limit_of, IsWithinLimits};
 
+use crate::measures::Measures;
 use crate::value::Value;
+use vg_base::limits::{STRING_BYTES, VALUE_BYTES, VALUE_DEPTH, VALUES};
 
 /// What a script's value may have too much of.
 #[derive(Clone, Copy, Debug, PartialEq, Eq)]
@@ -14,21 +16,29 @@ pub enum Limit {
     DeepValue,
 }
 
+impl Measures {
+    /// The first limit that a value so large passes, if it passes one.
+    pub fn first_limit(self) -> Option<Limit>
+        ensures { result ≡ limit_of self }
+    {
+        if self.text > STRING_BYTES {
+            Some(Limit::TextLong)
+        } else if self.values > VALUES || self.bytes > VALUE_BYTES {
+            Some(Limit::Wide)
+        } else if self.depth > VALUE_DEPTH {
+            Some(Limit::DeepValue)
+        } else {
+            None
+        }
+    }
+}
+
 impl Value {
     /// The first limit that the value passes, if it passes one.
     pub fn first_limit(&self) -> Option<Limit>
         ensures limit { result ≡ first_limit self.now }
         ensures within { IsNone result ↔ IsWithinLimits self.now }
     {
-        if !self.has_texts_at_most(65_536) {
-            return Some(Limit::TextLong);
-        }
-        if !self.holds_at_most(4_096) || !self.has_text_bytes_at_most(262_144) {
-            return Some(Limit::Wide);
-        }
-        if !self.nests_at_most(64) {
-            return Some(Limit::DeepValue);
-        }
-        None
+        self.measures().first_limit()
     }
 }

@@ -1,4 +1,5 @@
-ghost use Rattle.std.specs.Prelude.{◌≡◌, IfOk};
+ghost use Rattle.std.specs.Prelude.{◌≡◌, IfOk, OnOk, OnErr};
+ghost use Rattle.vg_base.specs.Pairs.{put};
 
 use sqlite_items::Items;
 use std::alloc::Global;
@@ -49,7 +50,23 @@ fn copy_record(alloc: Global, members: &TextMap<Value>) -> Result<TextMap<Value>
 {
     let mut copy = TextMap::new(alloc);
     for (key, value) in members.iter() {
-        copy.set(key.copy()?, value.copy(alloc)?)?;
+        put_member(&mut copy, key.copy()?, value.copy(alloc)?)?;
     }
     Ok(copy)
+}
+
+/// Gives the key this value. The one that it had is dropped.
+pub fn put_member(members: &mut TextMap<Value>, key: Text, value: Value) -> Result<(), Memory>
+    ensures ok { OnOk result (members.new ≡ put key value members.old) }
+    ensures err { OnErr result (members.new ≡ members.old) }
+{
+    members.set(key, value)?;
+    Ok(())
+}
+
+fn crosses<T: Send + Sync>() {}
+
+/// Values may go to other threads, and be seen by several.
+fn values_cross() {
+    crosses::<Value>();
 }

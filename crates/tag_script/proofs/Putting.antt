@@ -11,14 +11,14 @@ use Rattle.std.proofs.lemmas.Map.Text.{is_eq-slice_cmp}
 use Rattle.std.proofs.lemmas.Slice.Eq.{bytes_eq-Decides}
 use Rattle.vg_base.specs.Pairs.{put, without, IsRising}
 
-same_key : (k l : List ℕ) → slice_cmp nat_cmp k l ≡ Equal → k ≡ l
+pub same_key : (k l : List ℕ) → slice_cmp nat_cmp k l ≡ Equal → k ≡ l
 same_key k l e = (bytes_eq-Decides k l).0 (sym (is_eq-slice_cmp k l) ∙ ap is_eq e)
 
 -- the key is below all of these
 abbrev pub IsBelow : List ℕ → List (List ℕ) → Type 0
 IsBelow key keys = AllByRecursion (λ k. slice_cmp nat_cmp key k ≡ Less) keys
 
-below : (key k : List ℕ) (keys : List (List ℕ)) → slice_cmp nat_cmp key k ≡ Less → IsBelow k keys → IsBelow key keys
+pub below : (key k : List ℕ) (keys : List (List ℕ)) → slice_cmp nat_cmp key k ≡ Less → IsBelow k keys → IsBelow key keys
 below key k [] e h = h
 below key k (x ∷ keys) e h = (nat_list_cmp_total.trans key k x e h.0, below key k keys e h.1)
 

@@ -5,6 +5,7 @@ use Rattle.vg_base.specs.declared.script.Expr.{Expr}
 use Rattle.vg_base.specs.declared.script.Expr.TheOpen.{Expr-F}
 use Rattle.vg_base.specs.declared.script.Expr.TheFolds.{fold-Expr}
 use Rattle.vg_base.specs.declared.script.Key.{Key, Key-F, fold-Key}
+use Rattle.vg_base.specs.declared.script.BinOp.{BinOp}
 use Rattle.script_value.specs.declared.value.Value.{Value}
 use Rattle.script_value.specs.declared.value.Value.TheVariants as v
 use Rattle.script_value.specs.Truth.{is_true}
@@ -13,7 +14,7 @@ use Rattle.tag_script.specs.declared.step.Step.{Step}
 use Rattle.tag_script.specs.declared.step.Step.TheVariants as step
 use Rattle.tag_script.specs.declared.tag_kind.TagKind.TheVariants as tag
 use Rattle.tag_script.specs.Outcomes.{Outcome, and_then, or_fault, tested}
-use Rattle.tag_script.specs.Operators.{number, truth, after_left, unary}
+use Rattle.tag_script.specs.Operators.{number, truth, operator_of, after_left, unary}
 use Rattle.tag_script.specs.Parts.{or_null, part}
 
 -- what an expression means, and what a step of a path means
@@ -33,6 +34,16 @@ abbrev pub members : List (List ℕ × Meaning) → Env → List (List ℕ × Va
 members [] env all = Ok all
 members (m ∷ more) env all = and_then (m.1 env) (λ x. members more env (put m.0 x all))
 
+-- what operators, each with its right operand, make of a value, one after another
+abbrev pub chained : List (BinOp × Meaning) → Env → Value → Outcome Value
+chained [] env x = Ok x
+chained (link ∷ more) env x = and_then (after_left (operator_of link.0) x (link.1 env)) (chained more env)
+
+-- the part of a value behind steps
+abbrev pub stepped : List StepMeaning → Env → Value → Outcome Value
+stepped [] env x = Ok x
+stepped (key ∷ more) env x = and_then (and_then (key env) (part x)) (stepped more env)
+
 abbrev pub variable : List ℕ → Meaning
 variable name env = or_fault tag.Unknown (find name env.vars)
 
@@ -51,9 +62,9 @@ expr_meaning (Expr-F.Name name) env = variable name env
 expr_meaning (Expr-F.List items) env = and_then (each items env []) (λ values. tested (v.List values))
 expr_meaning (Expr-F.Record pairs) env = and_then (members pairs env []) (λ all. tested (v.Record all))
 expr_meaning (Expr-F.Choose test first second) env = and_then (test env) (λ x. and_then (if is_true x then first env else second env) tested)
-expr_meaning (Expr-F.Binary operator left right) env = and_then (left env) (λ x. after_left operator x (right env))
+expr_meaning (Expr-F.Chain first more) env = and_then (first env) (chained more env)
 expr_meaning (Expr-F.Unary operator inner) env = and_then (inner env) (unary operator)
-expr_meaning (Expr-F.Part inner key) env = and_then (inner env) (λ x. and_then (key env) (part x))
+expr_meaning (Expr-F.Part inner path) env = and_then (inner env) (stepped path env)
 expr_meaning (Expr-F.Rule name) env = Ok (or_null (find name env.rules))
 expr_meaning Expr-F.LatestRule env = Ok (or_null env.latest)
 expr_meaning (Expr-F.RuleText name) env = Ok (text_or_null (find name env.texts))

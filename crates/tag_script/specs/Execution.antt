@@ -3,7 +3,6 @@ use Rattle.std.specs.Prelude.{ℕ, List, [], ◌∷◌, ◌++◌, map, if◌then
 use Rattle.vg_base.specs.Pairs.{find, put}
 use Rattle.vg_base.specs.declared.script.AssignOp.{AssignOp}
 use Rattle.vg_base.specs.declared.script.AssignOp.TheVariants as assign
-use Rattle.vg_base.specs.declared.script.BinOp.TheVariants as op
 use Rattle.vg_base.specs.declared.script.Expr.{Expr}
 use Rattle.vg_base.specs.declared.script.Key.{Key}
 use Rattle.vg_base.specs.declared.script.Root.{Root}
@@ -19,7 +18,9 @@ use Rattle.tag_script.specs.declared.env.Env.{Env}
 use Rattle.tag_script.specs.declared.step.Step.{Step}
 use Rattle.tag_script.specs.declared.tag_kind.TagKind.TheVariants as tag
 use Rattle.tag_script.specs.Outcomes.{Outcome, and_then, or_fault, tested}
-use Rattle.tag_script.specs.Operators.{binary}
+use Rattle.tag_script.specs.declared.operator.Strict.TheVariants as both
+use Rattle.tag_script.specs.declared.operator.Operator.TheVariants as way
+use Rattle.tag_script.specs.Operators.{after_left}
 use Rattle.tag_script.specs.Parts.{part}
 use Rattle.tag_script.specs.Changes.{changed}
 use Rattle.tag_script.specs.Evaluation.{meaning, key_meant}
@@ -52,9 +53,9 @@ read (s ∷ more) x = and_then (part x s) (read more)
 abbrev pub assigned : AssignOp → Root → List Step → Expr → Env → Outcome Value
 assigned assign.Set target path value env = meaning value env
 assigned assign.Add target path value env =
-    and_then (and_then (or_fault tag.Unknown (at_root target env)) (read path)) (λ old. and_then (meaning value env) (binary op.Add old))
+    and_then (and_then (or_fault tag.Unknown (at_root target env)) (read path)) (λ old. after_left way.Add old (meaning value env))
 assigned assign.Sub target path value env =
-    and_then (and_then (or_fault tag.Unknown (at_root target env)) (read path)) (λ old. and_then (meaning value env) (binary op.Sub old))
+    and_then (and_then (or_fault tag.Unknown (at_root target env)) (read path)) (λ old. after_left (way.Strict both.Sub) old (meaning value env))
 
 -- the root with the new value behind the path; the changed variable is tested
 abbrev pub change_out : List Step → Value → Env → Outcome Env

@@ -1,5 +1,5 @@
 -- What runs of scripts keep.
-use Rattle.std.specs.Prelude.{◌≡◌, Bool, true, false, ◌&&◌, Option, Some, None, Ok, All}
+use Rattle.std.specs.Prelude.{◌≡◌, Bool, true, false, ◌&&◌, Option, Some, None, Ok, All, IfSome}
 use Rattle.std.specs.List.{list_all}
 use Rattle.std.specs.Map.{values_of}
 use Rattle.vg_base.specs.declared.script.Script.{Script}
@@ -30,10 +30,12 @@ only_looks = fold-Stmt Bool only_looks_level
 abbrev pub LookingChangesNothing : Type 0
 LookingChangesNothing = (script : Script) (env after : Env) → list_all only_looks script.body ≡ true → run script env ≡ Ok after → after ≡ env
 
--- each variable and `out` is within the limits of values
+-- each value in it is within the limits of values
 pub record IsWithin (env : Env) : Type 0 where
   pub vars : All IsWithinLimits (values_of env.vars)
   pub out : IsWithinLimits env.out
+  pub rules : All IsWithinLimits (values_of env.rules)
+  pub latest : IfSome env.latest IsWithinLimits
 
 -- so they are after a script where they were before
 abbrev pub RunsKeepLimits : Type 0

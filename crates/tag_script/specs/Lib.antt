@@ -5,5 +5,7 @@ pub mod Parts
 pub mod Changes
 pub mod Evaluation
 pub mod Execution
-pub mod Seen
+pub mod Weight
 pub mod Laws
+-- For private contracts alone.
+pub mod code

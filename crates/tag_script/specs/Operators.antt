@@ -1,5 +1,5 @@
 -- The operators of scripts, over plain values. Numbers are whole.
-use Rattle.std.specs.Prelude.{ℕ, ◌^◌, nat_lt, ℤ, pos, ◌+ℤ◌, ◌-ℤ◌, ◌*ℤ◌, neg_ℤ, unsigned_abs, int_div, int_rem, Bool, true, false, not, ◌||◌, if◌then◌else◌, List, ◌++◌, Option, Some, None, Ok, Err, codes}
+use Rattle.std.specs.Prelude.{ℕ, nat_le, ℤ, pos, ◌+ℤ◌, ◌-ℤ◌, ◌*ℤ◌, neg_ℤ, unsigned_abs, int_div, int_rem, Bool, true, false, not, ◌||◌, if◌then◌else◌, List, ◌++◌, Option, Some, None, Ok, Err, codes}
 use Rattle.std.specs.Cmp.Lexicographic.{slice_cmp}
 use Rattle.std.specs.Ordering.{nat_cmp, int_cmp, int_eq, is_lt, is_le, is_gt, is_ge}
 use Rattle.std.specs.declared.cmp.Ordering.{Ordering}
@@ -12,6 +12,11 @@ use Rattle.script_value.specs.declared.value.Value.{Value, out-Value}
 use Rattle.script_value.specs.declared.value.Value.TheVariants as v
 use Rattle.script_value.specs.declared.value.Value.TheOpen.{Value-F}
 use Rattle.script_value.specs.Truth.{same, is_true}
+use Rattle.vg_base.specs.Limits.{script_number}
+use Rattle.tag_script.specs.declared.operator.Strict.{Strict}
+use Rattle.tag_script.specs.declared.operator.Strict.TheVariants as both
+use Rattle.tag_script.specs.declared.operator.Operator.{Operator}
+use Rattle.tag_script.specs.declared.operator.Operator.TheVariants as way
 use Rattle.tag_script.specs.declared.tag_kind.TagKind.TheVariants as tag
 use Rattle.tag_script.specs.Outcomes.{Outcome, and_then, or_fault, tested}
 
@@ -21,7 +26,7 @@ Opened = Value-F Value
 
 -- from -(2^53 - 1) to 2^53 - 1
 abbrev pub is_script_number : ℤ → Bool
-is_script_number n = nat_lt (unsigned_abs n) (2 ^ 53)
+is_script_number n = nat_le (unsigned_abs n) script_number
 
 abbrev pub number : ℤ → Outcome Value
 number n = if is_script_number n then Ok (v.Number n) else Err tag.Range
@@ -78,31 +83,40 @@ order_of x y = None
 abbrev pub compared : (Ordering → Bool) → Opened → Opened → Outcome Value
 compared holds x y = and_then (or_fault tag.Kind (order_of x y)) (λ order. truth (holds order))
 
--- one of two values
-abbrev pub either : Bool → Value → Value → Outcome Value
-either first x y = tested (if first then x else y)
+-- an operator whose operands are both evaluated, but `+`
+abbrev pub strict : Strict → Value → Value → Outcome Value
+strict both.Sub x y = of_numbers (λ a b. number (a -ℤ b)) (out-Value x) (out-Value y)
+strict both.Mul x y = of_numbers (λ a b. number (a *ℤ b)) (out-Value x) (out-Value y)
+strict both.Div x y = of_numbers quotient (out-Value x) (out-Value y)
+strict both.Rem x y = of_numbers remainder (out-Value x) (out-Value y)
+strict both.Lt x y = compared is_lt (out-Value x) (out-Value y)
+strict both.Le x y = compared is_le (out-Value x) (out-Value y)
+strict both.Gt x y = compared is_gt (out-Value x) (out-Value y)
+strict both.Ge x y = compared is_ge (out-Value x) (out-Value y)
+strict both.Eq x y = and_then (or_fault tag.Kind (same x y)) truth
+strict both.Ne x y = and_then (or_fault tag.Kind (same x y)) (λ b. truth (not b))
 
--- an operator whose operands are both evaluated
-abbrev pub binary : BinOp → Value → Value → Outcome Value
-binary op.Add x y = sum (out-Value x) (out-Value y)
-binary op.Sub x y = of_numbers (λ a b. number (a -ℤ b)) (out-Value x) (out-Value y)
-binary op.Mul x y = of_numbers (λ a b. number (a *ℤ b)) (out-Value x) (out-Value y)
-binary op.Div x y = of_numbers quotient (out-Value x) (out-Value y)
-binary op.Rem x y = of_numbers remainder (out-Value x) (out-Value y)
-binary op.Lt x y = compared is_lt (out-Value x) (out-Value y)
-binary op.Le x y = compared is_le (out-Value x) (out-Value y)
-binary op.Gt x y = compared is_gt (out-Value x) (out-Value y)
-binary op.Ge x y = compared is_ge (out-Value x) (out-Value y)
-binary op.Eq x y = and_then (or_fault tag.Kind (same x y)) truth
-binary op.Ne x y = and_then (or_fault tag.Kind (same x y)) (λ b. truth (not b))
-binary op.Or x y = either (is_true x) x y
-binary op.And x y = either (not (is_true x)) x y
+abbrev pub operator_of : BinOp → Operator
+operator_of op.Or = way.Or
+operator_of op.And = way.And
+operator_of op.Add = way.Add
+operator_of op.Eq = way.Strict both.Eq
+operator_of op.Ne = way.Strict both.Ne
+operator_of op.Lt = way.Strict both.Lt
+operator_of op.Le = way.Strict both.Le
+operator_of op.Gt = way.Strict both.Gt
+operator_of op.Ge = way.Strict both.Ge
+operator_of op.Sub = way.Strict both.Sub
+operator_of op.Mul = way.Strict both.Mul
+operator_of op.Div = way.Strict both.Div
+operator_of op.Rem = way.Strict both.Rem
 
 -- after the left operand: `||` and `&&` evaluate the right one only where they need it
-abbrev pub after_left : BinOp → Value → Outcome Value → Outcome Value
-after_left op.Or x right = if is_true x then tested x else and_then right tested
-after_left op.And x right = if is_true x then and_then right tested else tested x
-after_left operator x right = and_then right (binary operator x)
+abbrev pub after_left : Operator → Value → Outcome Value → Outcome Value
+after_left way.Or x right = if is_true x then tested x else and_then right tested
+after_left way.And x right = if is_true x then and_then right tested else tested x
+after_left way.Add x right = and_then right (λ y. sum (out-Value x) (out-Value y))
+after_left (way.Strict operator) x right = and_then right (strict operator x)
 
 abbrev pub number_of : Opened → Option ℤ
 number_of (Value-F.Number n) = Some n

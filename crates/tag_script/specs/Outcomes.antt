@@ -1,13 +1,11 @@
 -- What an evaluation gives: a value, or the first fault.
-use Rattle.std.specs.Prelude.{◌≡◌, Result, Ok, Err, Option, Some, None}
+use Rattle.std.specs.Prelude.{Result, Ok, Err, Option, Some, None}
 use Rattle.script_value.specs.declared.value.Value.{Value}
 use Rattle.script_value.specs.Limits.{first_limit}
 use Rattle.script_value.specs.declared.limits.Limit.{Limit}
 use Rattle.script_value.specs.declared.limits.Limit.TheVariants as limit
 use Rattle.tag_script.specs.declared.tag_kind.TagKind.{TagKind}
 use Rattle.tag_script.specs.declared.tag_kind.TagKind.TheVariants as tag
-use Rattle.tag_script.specs.declared.refused.RunRefused.{RunRefused}
-use Rattle.tag_script.specs.declared.refused.RunRefused.TheVariants as refused
 
 abbrev pub Outcome : Type 0 → Type 0
 Outcome A = Result A TagKind
@@ -34,9 +32,3 @@ within v (Some l) = Err (fault_of l)
 -- the value, where it is within the limits of values
 abbrev pub tested : Value → Outcome Value
 tested v = within v (first_limit v)
-
--- a call's answer is this outcome; want of memory is free
-abbrev pub Gives : {A : Type 0} → Result A RunRefused → Outcome A → Type 0
-Gives (Ok x) outcome = outcome ≡ Ok x
-Gives (Err (refused.Fault kind)) outcome = outcome ≡ Err kind
-Gives (Err refused.Memory) outcome = Unit {0}

@@ -2,17 +2,18 @@
 ghost use Rattle.std.specs.Prelude.{◌≡◌, ◌++◌, ◌∷◌, ◌<◌, Ok, IfOk, length, reverse, slice_get, Some};
 ghost use Rattle.script_value.specs.declared.value.Value.{Value, out-Value};
 ghost use Rattle.script_value.specs.declared.value.Value.TheVariants as v;
-ghost use Rattle.vg_base.specs.Pairs.{find, put};
+ghost use Rattle.vg_base.specs.Pairs.{find, put, IsRising};
 ghost use Rattle.tag_script.specs.declared.tag_kind.TagKind.TheVariants as tag;
 ghost use Rattle.tag_script.specs.Changes as spec;
-ghost use Rattle.tag_script.specs.Outcomes.{Gives, and_then, or_fault};
+ghost use Rattle.vg_base.specs.Refusals.{Gives};
+ghost use Rattle.tag_script.specs.Outcomes.{and_then, or_fault};
 
 use crate::fault::kind_fault;
 use crate::parts::key_of;
 use crate::refused::RunRefused;
 use crate::step::Step;
 use crate::tag_kind::TagKind;
-use script_value::Value;
+use script_value::{Value, put_member};
 use sqlite_items::Items;
 use std::alloc::Global;
 use vg_base::{Memory, Text, TextMap};
@@ -61,7 +62,7 @@ fn with_member(members: TextMap<Value>, key: Text, new: Value) -> Result<Value, 
     ensures { Gives result (Ok (v.Record (put key new members))) }
 {
     let mut members = members;
-    members.set(key, new)?;
+    put_member(&mut members, key, new)?;
     Ok(Value::Record(members))
 }
 
@@ -135,7 +136,7 @@ fn walked_member(
         return kind_fault();
     };
     let changed = walked(alloc, next, rest, new, inner)?;
-    members.set(key, changed)?;
+    put_member(&mut members, key, changed)?;
     Ok(Value::Record(members))
 }
 
@@ -170,6 +171,7 @@ fn walked_item(
 pub(crate) fn take_member(members: &mut TextMap<Value>, key: &Text) -> Option<Value>
     ensures value { result ≡ find key.now members.old }
     ensures again { (x : Value) → put key.now x members.new ≡ put key.now x members.old }
+    ensures rising { IsRising members.old }
 {
     if members.is_empty() {
         return None;

@@ -1,59 +1,74 @@
 //! What a statement makes of an environment.
-ghost use Rattle.std.specs.Prelude.{◌≡◌, [], map};
+ghost use Rattle.std.specs.Prelude.{◌≡◌, [], ◌≤◌, max, map, IfOk};
+ghost use Rattle.vg_base.specs.Refusals.{Gives};
 ghost use Rattle.tag_script.specs.Execution as spec;
-ghost use Rattle.tag_script.specs.Outcomes.{Gives, and_then, tested, or_fault};
-ghost use Rattle.tag_script.specs.Changes as changes;
-ghost use Rattle.tag_script.specs.Seen.{Shows};
+ghost use Rattle.tag_script.specs.Outcomes.{and_then, or_fault};
+ghost use Rattle.tag_script.specs.Weight.{weight_of, most_weight};
+ghost use Rattle.tag_script.specs.code.Seen.{Shows};
 ghost use Rattle.tag_script.specs.declared.tag_kind.TagKind.TheVariants as tag;
 
-use crate::changes::{changed, take_member};
 use crate::env::Env;
 use crate::evaluate::{evaluate, evaluate_key};
-use crate::operators::{binary, tested};
+use crate::operator::Strict;
+use crate::operators::{add, strict};
 use crate::parts::part_of;
 use crate::refused::RunRefused;
 use crate::seen::Seen;
 use crate::step::Step;
 use crate::tag_kind::TagKind;
+use crate::weighed::{
+    MOST_WEIGHT, Scope, Weighed, change_out, change_variable, weight_of, weight_of_step,
+};
 use script_value::{Value, is_true};
 use sqlite_items::Items;
 use std::alloc::Global;
-use std::mem;
-use vg_base::{AssignOp, BinOp, Expr, Key, Root, Script, Stmt, Text};
+use vg_base::{AssignOp, Expr, Key, Root, Script, Stmt, Text};
 
 /// The environment after a script, or the first fault. The environment is used up where there is none.
+/// Memory is wanted, too, where values would weigh more together than they may.
 pub fn run(alloc: Global, script: &Script, env: Env) -> Result<Env, RunRefused>
-    ensures { Gives result (spec.run script.now env) }
+    ensures after { Gives result (spec.run script.now env) }
+    ensures weight { IfOk result (λ after. weight_of after ≤ max most_weight (weight_of env)) }
 {
-    execute_all(alloc, script.body.as_slice(), env)
+    let weight = weight_of(&env);
+    if weight == u64::MAX {
+        return Err(RunRefused::Memory);
+    }
+    let most = weight.max(MOST_WEIGHT);
+    let scope = Scope { alloc, most };
+    let after = execute_all(scope, script.body.as_slice(), Weighed::of(env, weight))?;
+    if after.weight() > most {
+        return Err(RunRefused::Memory);
+    }
+    Ok(after.into_env())
 }
 
 #[cycle(execute)]
-fn execute_all(alloc: Global, statements: &[Stmt], env: Env) -> Result<Env, RunRefused>
+fn execute_all(scope: Scope, statements: &[Stmt], env: Weighed) -> Result<Weighed, RunRefused>
     ensures { Gives result (spec.in_turn (map spec.effect statements.now) env) }
 {
     let mut env = env;
     for statement in statements {
-        env = execute(alloc, statement, env)?;
+        env = execute(scope, statement, env)?;
     }
     Ok(env)
 }
 
 #[cycle(execute)]
-fn execute(alloc: Global, statement: &Stmt, env: Env) -> Result<Env, RunRefused>
+fn execute(scope: Scope, statement: &Stmt, env: Weighed) -> Result<Weighed, RunRefused>
     ensures { Gives result (spec.effect statement.now env) }
 {
     match statement {
         Stmt::Empty => Ok(env),
-        Stmt::Block(body) => execute_all(alloc, body.as_slice(), env),
-        Stmt::Var { name, value } => declare(alloc, name, value, env),
+        Stmt::Block(body) => execute_all(scope, body.as_slice(), env),
+        Stmt::Var { name, value } => declare(scope, name, value, env),
         Stmt::If { test, yes, other } => {
-            let holds = is_true(evaluate(alloc, test, &env)?.value());
+            let holds = is_true(evaluate(scope.alloc, test, env.env())?.value());
             if holds {
-                return execute(alloc, yes.get(), env);
+                return execute(scope, yes.get(), env);
             }
             match other {
-                Some(other) => execute(alloc, other.get(), env),
+                Some(other) => execute(scope, other.get(), env),
                 None => Ok(env),
             }
         }
@@ -62,41 +77,62 @@ fn execute(alloc: Global, statement: &Stmt, env: Env) -> Result<Env, RunRefused>
             path,
             op,
             value,
-        } => assign(alloc, root, path.as_slice(), *op, value, env),
+        } => assign(
+            scope,
+            Target {
+                root,
+                path: path.as_slice(),
+            },
+            *op,
+            value,
+            env,
+        ),
         Stmt::Plain(value) => {
-            evaluate(alloc, value, &env)?;
+            evaluate(scope.alloc, value, env.env())?;
             Ok(env)
         }
     }
 }
 
-fn declare(alloc: Global, name: &Text, value: &Option<Expr>, env: Env) -> Result<Env, RunRefused>
+fn declare(
+    scope: Scope,
+    name: &Text,
+    value: &Option<Expr>,
+    env: Weighed,
+) -> Result<Weighed, RunRefused>
     ensures { Gives result (spec.declare name.now value.now env) }
 {
-    let mut env = env;
     match value {
         Some(value) => {
-            let given = tested(evaluate(alloc, value, &env)?.into_value(alloc)?)?;
-            env.vars.set(name.copy()?, given)?;
+            let given = evaluate(scope.alloc, value, env.env())?.into_value(scope.alloc)?;
+            change_variable(scope, name, &[], given, env)
         }
         None => {
-            if !env.vars.contains(name) {
-                env.vars.set(name.copy()?, Value::Null)?;
+            if env.env().vars.contains(name) {
+                Ok(env)
+            } else {
+                change_variable(scope, name, &[], Value::Null, env)
             }
         }
     }
-    Ok(env)
 }
 
 // ---- assignments
 
-/// The steps of a target, their indices evaluated from left to right.
+/// The steps of a target, their indices evaluated from left to right. They are held until the last is known, and so may weigh no more
+/// together than an environment may.
 fn steps(alloc: Global, keys: &[Key], env: &Env) -> Result<Items<Step>, RunRefused>
     ensures { Gives result (spec.steps keys.now env.now []) }
 {
     let mut path = Items::new(alloc);
+    let mut held = 0u64;
     for key in keys {
-        path.push(evaluate_key(alloc, key, env)?)?;
+        let step = evaluate_key(alloc, key, env)?;
+        held = held.saturating_add(weight_of_step(&step));
+        if held > MOST_WEIGHT {
+            return Err(RunRefused::Memory);
+        }
+        path.push(step)?;
     }
     Ok(path)
 }
@@ -141,55 +177,42 @@ fn assigned(
 ) -> Result<Value, RunRefused>
     ensures { Gives result (spec.assigned op root.now path.now value.now env.now) }
 {
-    let operator = match op {
-        AssignOp::Set => return Ok(evaluate(alloc, value, env)?.into_value(alloc)?),
-        AssignOp::Add => BinOp::Add,
-        AssignOp::Sub => BinOp::Sub,
-    };
-    let old = target_value(alloc, root, path, env)?;
-    let right = evaluate(alloc, value, env)?;
-    binary(alloc, operator, old.value(), right.value())
-}
-
-fn assign(
-    alloc: Global,
-    root: &Root,
-    keys: &[Key],
-    op: AssignOp,
-    value: &Expr,
-    env: Env,
-) -> Result<Env, RunRefused>
-    ensures { Gives result (spec.assign_to root.now keys.now op value.now env) }
-{
-    let path = steps(alloc, keys, &env)?;
-    let new = assigned(alloc, op, root, path.as_slice(), value, &env)?;
-    match root {
-        Root::Out => assign_out(alloc, path.as_slice(), new, env),
-        Root::Name(name) => assign_variable(alloc, name, path.as_slice(), new, env),
+    match op {
+        AssignOp::Set => Ok(evaluate(alloc, value, env)?.into_value(alloc)?),
+        AssignOp::Add => {
+            let old = target_value(alloc, root, path, env)?;
+            let right = evaluate(alloc, value, env)?;
+            add(alloc, old, right.value())
+        }
+        AssignOp::Sub => {
+            let from = target_value(alloc, root, path, env)?;
+            let right = evaluate(alloc, value, env)?;
+            strict(Strict::Sub, from.value(), right.value())
+        }
     }
 }
 
-fn assign_out(alloc: Global, path: &[Step], new: Value, env: Env) -> Result<Env, RunRefused>
-    ensures { Gives result (spec.change_out path.now new env) }
-{
-    let mut env = env;
-    let old = mem::replace(&mut env.out, Value::Null);
-    env.out = tested(changed(alloc, path, new, Some(old))?)?;
-    Ok(env)
+/// The root of a target, and the keys behind it.
+#[derive(Clone, Copy)]
+struct Target<'s> {
+    root: &'s Root,
+    path: &'s [Key],
 }
 
-fn assign_variable(
-    alloc: Global,
-    name: &Text,
-    path: &[Step],
-    new: Value,
-    env: Env,
-) -> Result<Env, RunRefused>
-    ensures { Gives result (spec.change_variable name.now path.now new env) }
+fn assign(
+    scope: Scope,
+    target: Target,
+    op: AssignOp,
+    value: &Expr,
+    env: Weighed,
+) -> Result<Weighed, RunRefused>
+    ensures { Gives result (spec.assign_to target.entry.root.now target.entry.path.now op value.now env) }
 {
-    let mut env = env;
-    let old = take_member(&mut env.vars, name);
-    let whole = tested(changed(alloc, path, new, old)?)?;
-    env.vars.set(name.copy()?, whole)?;
-    Ok(env)
+    let Target { root, path: keys } = target;
+    let path = steps(scope.alloc, keys, env.env())?;
+    let new = assigned(scope.alloc, op, root, path.as_slice(), value, env.env())?;
+    match root {
+        Root::Out => change_out(scope, path.as_slice(), new, env),
+        Root::Name(name) => change_variable(scope, name, path.as_slice(), new, env),
+    }
 }

@@ -1,6 +1,6 @@
 //! Short ways to a fault.
 ghost use Rattle.std.specs.Prelude.{◌≡◌, Err};
-ghost use Rattle.tag_script.specs.declared.refused.RunRefused.TheVariants as refused;
+ghost use Rattle.vg_base.specs.declared.refused.Refused.TheVariants as refused;
 ghost use Rattle.tag_script.specs.declared.tag_kind.TagKind.TheVariants as tag;
 
 use crate::refused::RunRefused;

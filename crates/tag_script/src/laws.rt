@@ -1,5 +1,9 @@
 //! Laws of the definitions, each the contract of a function that does nothing.
+ghost use Rattle.std.specs.Prelude.{◌≡◌};
 ghost use Rattle.tag_script.specs.Laws.{LookingChangesNothing, RunsKeepLimits, RunsKeepReferences};
+ghost use Rattle.tag_script.specs.Weight.{most_weight};
+
+use crate::weighed::MOST_WEIGHT;
 
 /// A script without assignments and without `var` leaves the environment as it was.
 pub fn looking_changes_nothing()
@@ -10,4 +14,9 @@ pub fn looking_changes_nothing()
 pub fn runs_keep()
     ensures limits { RunsKeepLimits }
     ensures references { RunsKeepReferences }
+{}
+
+/// The constant is the weight that is stated.
+pub fn the_most_weight_is_stated()
+    ensures { MOST_WEIGHT ≡ most_weight }
 {}

@@ -1,23 +1,21 @@
 //! Whole numbers within the limits of scripts, and their operators.
 ghost use Rattle.std.specs.Prelude.{◌≡◌, ◌+ℤ◌, ◌-ℤ◌, ◌*ℤ◌, neg_ℤ, pos, IfOk};
 ghost use Rattle.std.specs.Fmt.{signed_decimal};
-ghost use Rattle.tag_script.specs.Outcomes.{Gives};
+ghost use Rattle.vg_base.specs.Refusals.{Gives};
 ghost use Rattle.tag_script.specs.Operators as spec;
 
 use crate::refused::RunRefused;
 use crate::tag_kind::TagKind;
 use script_value::Value;
 use std::alloc::Global;
+use vg_base::limits::SCRIPT_NUMBER;
 use vg_base::{Memory, Text};
-
-/// The first number past the limits, either way.
-const PAST: u64 = 1 << 53;
 
 /// A number, which has to be within the limits.
 pub(crate) fn number(n: i64) -> Result<Value, RunRefused>
     ensures { Gives result (spec.number n) }
 {
-    if n.unsigned_abs() < PAST {
+    if n.unsigned_abs() <= SCRIPT_NUMBER {
         Ok(Value::Number(n))
     } else {
         Err(RunRefused::Fault(TagKind::Range))

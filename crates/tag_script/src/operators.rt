@@ -1,19 +1,23 @@
 //! The operators of scripts (ECMAScript's, over whole numbers).
-ghost use Rattle.std.specs.Prelude.{◌≡◌, IfOk};
+ghost use Rattle.std.specs.Prelude.{◌≡◌, IfOk, Some};
 ghost use Rattle.script_value.specs.declared.value.Value.{out-Value};
 ghost use Rattle.script_value.specs.Truth.{same};
+ghost use Rattle.vg_base.specs.Refusals.{Gives};
 ghost use Rattle.tag_script.specs.declared.tag_kind.TagKind.TheVariants as tag;
-ghost use Rattle.tag_script.specs.Outcomes.{Gives, or_fault, tested};
+ghost use Rattle.tag_script.specs.Outcomes.{or_fault, tested};
+ghost use Rattle.tag_script.specs.code.Seen.{seen};
 ghost use Rattle.tag_script.specs.Operators as spec;
 
 use crate::fault::kind_fault;
 use crate::numbers::{decimal, difference, negative, number, product, quotient, remainder, sum};
+use crate::operator::Strict;
 use crate::refused::RunRefused;
+use crate::seen::Seen;
 use crate::tag_kind::TagKind;
 use script_value::{Value, is_true, same};
 use std::alloc::Global;
 use std::cmp::Ordering;
-use vg_base::{BinOp, Memory, Text, UnOp};
+use vg_base::{Memory, Text, UnOp};
 
 /// The value, where it is within the limits of values.
 pub(crate) fn tested(value: Value) -> Result<Value, RunRefused>
@@ -45,12 +49,11 @@ fn is_string(value: &Value) -> bool
     matches!(value, Value::Str(_))
 }
 
-fn joined(alloc: Global, left: &Value, right: &Value) -> Result<Value, RunRefused>
-    ensures { Gives result (spec.joined (spec.text_of (out-Value left.now)) (spec.text_of (out-Value right.now))) }
+/// The text with that of another value behind it.
+fn grown(alloc: Global, text: Text, right: &Value) -> Result<Value, RunRefused>
+    ensures { Gives result (spec.joined (Some text) (spec.text_of (out-Value right.now))) }
 {
-    let Some(mut text) = text_of(alloc, left)? else {
-        return kind_fault();
-    };
+    let mut text = text;
     let Some(more) = text_of(alloc, right)? else {
         return kind_fault();
     };
@@ -58,7 +61,16 @@ fn joined(alloc: Global, left: &Value, right: &Value) -> Result<Value, RunRefuse
     tested(Value::Str(text))
 }
 
-fn add(alloc: Global, left: &Value, right: &Value) -> Result<Value, RunRefused>
+fn joined(alloc: Global, left: &Value, right: &Value) -> Result<Value, RunRefused>
+    ensures { Gives result (spec.joined (spec.text_of (out-Value left.now)) (spec.text_of (out-Value right.now))) }
+{
+    let Some(text) = text_of(alloc, left)? else {
+        return kind_fault();
+    };
+    grown(alloc, text, right)
+}
+
+fn added(alloc: Global, left: &Value, right: &Value) -> Result<Value, RunRefused>
     ensures { Gives result (spec.sum (out-Value left.now) (out-Value right.now)) }
 {
     match (left, right) {
@@ -70,6 +82,26 @@ fn add(alloc: Global, left: &Value, right: &Value) -> Result<Value, RunRefused>
                 kind_fault()
             }
         }
+    }
+}
+
+/// A string that was made grows in place.
+fn added_to(alloc: Global, left: Value, right: &Value) -> Result<Value, RunRefused>
+    ensures { Gives result (spec.sum (out-Value left) (out-Value right.now)) }
+{
+    match left {
+        Value::Str(text) => grown(alloc, text, right),
+        other => added(alloc, &other, right),
+    }
+}
+
+/// `+`
+pub(crate) fn add(alloc: Global, left: Seen, right: &Value) -> Result<Value, RunRefused>
+    ensures { Gives result (spec.sum (out-Value (seen left.entry)) (out-Value right.now)) }
+{
+    match left {
+        Seen::Lent(value) => added(alloc, value, right),
+        Seen::Made(value) => added_to(alloc, value, right),
     }
 }
 
@@ -101,52 +133,33 @@ fn sameness(left: &Value, right: &Value) -> Result<bool, RunRefused>
     }
 }
 
-/// An operator between two values. No script comes here with `||` or `&&`, which evaluate only what they need.
-pub(crate) fn binary(
-    alloc: Global,
-    operator: BinOp,
-    left: &Value,
-    right: &Value,
-) -> Result<Value, RunRefused>
-    ensures { Gives result (spec.binary operator left.now right.now) }
+/// An operator between two values.
+pub(crate) fn strict(operator: Strict, left: &Value, right: &Value) -> Result<Value, RunRefused>
+    ensures { Gives result (spec.strict operator left.now right.now) }
 {
     match operator {
-        BinOp::Add => add(alloc, left, right),
-        BinOp::Sub => {
+        Strict::Sub => {
             let (a, b) = numbers(left, right)?;
             difference(a, b)
         }
-        BinOp::Mul => {
+        Strict::Mul => {
             let (a, b) = numbers(left, right)?;
             product(a, b)
         }
-        BinOp::Div => {
+        Strict::Div => {
             let (a, b) = numbers(left, right)?;
             quotient(a, b)
         }
-        BinOp::Rem => {
+        Strict::Rem => {
             let (a, b) = numbers(left, right)?;
             remainder(a, b)
         }
-        BinOp::Lt => Ok(Value::Truth(order_of(left, right)?.is_lt())),
-        BinOp::Le => Ok(Value::Truth(order_of(left, right)?.is_le())),
-        BinOp::Gt => Ok(Value::Truth(order_of(left, right)?.is_gt())),
-        BinOp::Ge => Ok(Value::Truth(order_of(left, right)?.is_ge())),
-        BinOp::Eq => Ok(Value::Truth(sameness(left, right)?)),
-        BinOp::Ne => Ok(Value::Truth(!sameness(left, right)?)),
-        BinOp::Or => either(alloc, is_true(left), left, right),
-        BinOp::And => either(alloc, !is_true(left), left, right),
-    }
-}
-
-/// A copy of the first value, or of the second one.
-fn either(alloc: Global, first: bool, left: &Value, right: &Value) -> Result<Value, RunRefused>
-    ensures { Gives result (spec.either first left.now right.now) }
-{
-    if first {
-        tested(left.copy(alloc)?)
-    } else {
-        tested(right.copy(alloc)?)
+        Strict::Lt => Ok(Value::Truth(order_of(left, right)?.is_lt())),
+        Strict::Le => Ok(Value::Truth(order_of(left, right)?.is_le())),
+        Strict::Gt => Ok(Value::Truth(order_of(left, right)?.is_gt())),
+        Strict::Ge => Ok(Value::Truth(order_of(left, right)?.is_ge())),
+        Strict::Eq => Ok(Value::Truth(sameness(left, right)?)),
+        Strict::Ne => Ok(Value::Truth(!sameness(left, right)?)),
     }
 }
 

@@ -3,7 +3,7 @@ ghost use Rattle.std.specs.Prelude.{◌≡◌, IfOk, length};
 ghost use Rattle.std.specs.Option.{option_copied};
 ghost use Rattle.script_value.specs.declared.value.Value.{out-Value};
 ghost use Rattle.tag_script.specs.Parts as spec;
-ghost use Rattle.tag_script.specs.Seen.{Shows, seen};
+ghost use Rattle.tag_script.specs.code.Seen.{Shows, seen};
 
 use crate::fault::kind_fault;
 use crate::numbers::{count, decimal};

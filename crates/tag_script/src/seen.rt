@@ -1,6 +1,6 @@
-ghost use Rattle.std.specs.Prelude.{◌≡◌, IfOk};
+ghost use Rattle.std.specs.Prelude.{◌≡◌, IfOk, IsTrue};
 ghost use Rattle.tag_script.specs.Outcomes.{tested};
-ghost use Rattle.tag_script.specs.Seen.{Shows, seen};
+ghost use Rattle.tag_script.specs.code.Seen.{Shows, seen, IsTested};
 
 use crate::refused::RunRefused;
 use crate::tag_kind::TagKind;
@@ -38,11 +38,21 @@ impl<'e> Seen<'e> {
 
     /// The value, where it is within the limits of values.
     pub(crate) fn tested(self) -> Result<Seen<'e>, RunRefused>
-        ensures { Shows result (tested (seen self.entry)) }
+        ensures value { Shows result (tested (seen self.entry)) }
+        ensures fits { IfOk result (λ x. IsTested (seen x)) }
     {
         match self.value().first_limit() {
             None => Ok(self),
             Some(limit) => Err(RunRefused::Fault(TagKind::of_limit(limit))),
         }
+    }
+
+    /// The same of a value that may be known to be within them.
+    pub(crate) fn tested_again(self, fits: bool) -> Result<Seen<'e>, RunRefused>
+        requires { IsTrue fits → IsTested (seen self) }
+        ensures value { Shows result (tested (seen self.entry)) }
+        ensures fits { IfOk result (λ x. IsTested (seen x)) }
+    {
+        if fits { Ok(self) } else { self.tested() }
     }
 }

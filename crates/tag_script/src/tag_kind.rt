@@ -3,6 +3,7 @@ ghost use Rattle.tag_script.specs.Kinds.{tag_kind_number, tag_kind_name};
 ghost use Rattle.tag_script.specs.Outcomes.{fault_of};
 
 use script_value::Limit;
+use std::fmt;
 
 /// Why a tag's evaluation ends without a result, in the order of the kinds' numbers.
 #[derive(Clone, Copy, Debug, PartialEq, Eq)]
@@ -55,5 +56,11 @@ impl TagKind {
             TagKind::Wide => "Wide",
             TagKind::DeepValue => "DeepValue",
         }
+    }
+}
+
+impl fmt::Display for TagKind {
+    fn fmt<W: fmt::Write>(&self, f: &mut fmt::Formatter<W>) -> fmt::Result {
+        f.write_str(self.name())
     }
 }

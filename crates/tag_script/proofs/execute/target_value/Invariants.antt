@@ -3,7 +3,7 @@ use Rattle.std.specs.Prelude.{drop}
 use Rattle.tag_script.specs.declared.tag_kind.TagKind.TheVariants as tag
 use Rattle.tag_script.specs.Execution as spec
 use Rattle.tag_script.specs.Outcomes.{and_then, or_fault}
-use Rattle.tag_script.specs.Seen.{seen}
+use Rattle.tag_script.specs.code.Seen.{seen}
 use Rattle.tag_script.proofs.execute.target_value.Given as goal
 
 -- the rest of the path, from what was seen, gives what the whole path gives

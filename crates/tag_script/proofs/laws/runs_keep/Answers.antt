@@ -15,10 +15,10 @@ abbrev KeepsLimits : Env → Env → Type 0
 KeepsLimits env after = IsWithin env → IsWithin after
 
 variable_keeps : (name : List ℕ) (x : Value) (env : Env) → IsWithinLimits x → KeepsLimits env (with_variable name x env)
-variable_keeps name x env fits = λ w. record { vars = All-values-insert_entry (slice_cmp nat_cmp) name x IsWithinLimits env.vars w.vars fits; out = w.out }
+variable_keeps name x env fits = λ w. record { vars = All-values-insert_entry (slice_cmp nat_cmp) name x IsWithinLimits env.vars w.vars fits; out = w.out; rules = w.rules; latest = w.latest }
 
 out_keeps : (x : Value) (env : Env) → IsWithinLimits x → KeepsLimits env (with_out x env)
-out_keeps x env fits = λ w. record { vars = w.vars; out = fits }
+out_keeps x env fits = λ w. record { vars = w.vars; out = fits; rules = w.rules; latest = w.latest }
 
 pub returns-clause-limits : goal.returns-clause-limits
 returns-clause-limits c = λ script env after w e.
