@@ -1,9 +1,9 @@
 -- The commands that are answered today, as JSON values (RFC 8259).
-use Rattle.std.specs.Prelude.{◌≡◌, ℕ, ◌==◌, List, [], ◌∷◌, Bool, false, if◌then◌else◌, Option, Some, None, option_map, option_and_then, codes, chars, Result}
-use Rattle.std.specs.Option.{option_map_or, ok_or}
+use Rattle.std.specs.Prelude.{◌≡◌, ℕ, ◌==◌, List, [], ◌∷◌, Bool, false, if◌then◌else◌, Option, Some, None, option_map, option_and_then, codes, chars, Result, Ok, Err}
+use Rattle.std.specs.Option.{option_map_or}
 use Rattle.std.specs.Str.{is_utf8, bytes_eq}
-use Rattle.vg_base.specs.Refusals.{Gives}
 use Rattle.vg_base.specs.declared.refused.Refused.{Refused}
+use Rattle.vg_base.specs.declared.refused.Refused.TheVariants as refused
 use Rattle.serde_json.specs.Data.{Data, Items, no_items, item}
 use Rattle.serde_json.specs.Events.{members_len}
 use Rattle.serde_json.specs.Find.{get, as_str, as_array, as_object}
@@ -76,6 +76,8 @@ command_in line = option_and_then command_of (value_of line)
 abbrev pub no_command : NoCommand
 no_command = record {}
 
--- what a reader finds: a value, or that there is none
+-- what a reader finds: a value, or that there is none; want of memory is free
 abbrev pub Finds : {T : Type 0} → Result T (Refused NoCommand) → Option T → Type 0
-Finds result found = Gives result (ok_or found no_command)
+Finds (Ok x) found = found ≡ Some x
+Finds (Err (refused.Fault fault)) found = found ≡ None
+Finds (Err refused.Memory) found = Unit {0}
