@@ -10,6 +10,3 @@ mod refused;
 pub use laws::{each_text_has_one_answer, machine_reads_the_grammar, scripts_are_shallow};
 pub use read::read_script;
 pub use refused::{ScriptRefused, ScriptSyntax};
-
-#[cfg(test)]
-mod tests;

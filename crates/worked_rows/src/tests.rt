@@ -1,10 +1,11 @@
-//! Scripts as texts. A row is a script, or an expression, and behind ` => ` what `out` holds at the end as JSON, or the fault.
+//! Scripts as texts: what is read of them (`reading`), and what they do. A row is a script, or an expression, and behind ` => ` what `out` holds at the end as JSON, or the fault.
 mod arithmetic_on_kinds;
 mod assignments;
 mod literals;
 mod operators;
 mod operators_on_kinds;
 mod parts;
+mod reading;
 mod references;
 mod statements;
 mod weights;

@@ -3,16 +3,10 @@ mod printer;
 mod refusals;
 mod scripts;
 
-use crate::{ScriptRefused, ScriptSyntax, read_script};
+use super::Ground;
 use printer::printed;
-use std::alloc::{Alloc, Global};
-use std::process::Abort;
+use script_reader::{ScriptRefused, ScriptSyntax, read_script};
 use vg_base::{Script, Text};
-
-/// What ends a test where memory is wanted and isn't there.
-trait Ground: Abort + Alloc<A = Global> {}
-
-impl<T: Abort + Alloc<A = Global>> Ground for T {}
 
 fn answer(rt: &impl Ground, text: &str) -> Result<Script, ScriptRefused> {
     let text = Text::of(rt.alloc(), text).expect(rt, "memory");
