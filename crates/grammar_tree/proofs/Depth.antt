@@ -11,7 +11,7 @@ use Rattle.grammar_tree.specs.declared.parse_tree.ParseTree.{ParseTree}
 use Rattle.grammar_tree.specs.Links.{Rules, IsLinked, node_at, parts}
 use Rattle.grammar_tree.specs.Derives.{Words, IsAtMost, CanBeEmpty, Derives, by_token, by_seq, by_alt, by_rep, by_ref, by_tag, by_null, by_garbage, DerivesEach, no_part, part, DerivesTurns, no_turn, turn}
 use Rattle.grammar_tree.specs.Alone.{Alone, at_ref, at_seq, at_alt, at_rep, NoSelfDerivation, Path, Shallow}
-use Rattle.grammar_tree.proofs.Lists.{nil_front, nil_back}
+use Rattle.grammar_tree.proofs.EmptyParts.{each_empty, turns_empty}
 use Rattle.grammar_tree.proofs.Paths.{path_short}
 use Rattle.grammar_tree.proofs.Views.{is_node}
 
@@ -78,17 +78,6 @@ module _ (L : Rules) (linked : IsLinked L) (acyclic : NoSelfDerivation L) where
       at [] path = omega arith
       at (r ∷ rs) path = s.by (r ∷ rs) (lift r path.0, path.1)
 
-  -- the parts that derive no word can each be empty
-  each_empty : (ps : List NodeIx) (ws : Words) (ts : List ParseTree) → ws ≡ [] → DerivesEach L ps ws ts → (j : ℕ) (p : NodeIx) → slice_get ps j ≡ Some p → CanBeEmpty L p
-  each_empty _ ws _ e (no_part z) j p g = absurd (cc)
-  each_empty _ ws _ e (part {p = m} {t = t} u v z d ds) zero p g =
-      let same : m ≡ p = cc in (t, subst (λ x. Derives L x [] t) same (subst (λ w. Derives L m w t) (nil_front u v (sym z ∙ e)) d))
-  each_empty _ ws _ e (part {ps = ps} {ts = ts} u v z d ds) (suc j) p g = each_empty ps v ts (nil_back u v (sym z ∙ e)) ds j p g
-
-  turns_empty : (p : NodeIx) (free : ℕ) (ws : Words) (ts : List ParseTree) → ws ≡ [] → 0 < length ts → DerivesTurns L p free ws ts → CanBeEmpty L p
-  turns_empty p free ws _ e pos (no_turn z) = absurd (omega arith)
-  turns_empty p free ws _ e pos (turn {t = t} u v z ne d ds) = (t, subst (λ w. Derives L p w t) (nil_front u v (sym z ∙ e)) d)
-
   abbrev pub rank_of : NodeIx → ℕ → ℕ → ℕ
   rank_of n words budget = rank (length L.rules) (length L.nodes) words budget n.0
 
@@ -142,7 +131,7 @@ module _ (L : Rules) (linked : IsLinked L) (acyclic : NoSelfDerivation L) where
       where
         tail_empty : (i : ℕ) (other : NodeIx) → i ≢ 0 → slice_get (p ∷ ps) i ≡ Some other → v ≡ [] → CanBeEmpty L other
         tail_empty zero other ne g e = absurd (ne refl)
-        tail_empty (suc i) other ne g e = each_empty ps v ts e ds i other g
+        tail_empty (suc i) other ne g e = each_empty L ps v ts e ds i other g
 
         front_empty : (i : ℕ) (other : NodeIx) (j : ℕ) → i ≢ suc j → slice_get (p ∷ ps) i ≡ Some other →
             ((i : ℕ) (other : NodeIx) → i ≢ j → slice_get ps i ≡ Some other → CanBeEmpty L other) → u ≡ [] → CanBeEmpty L other
@@ -172,7 +161,7 @@ module _ (L : Rules) (linked : IsLinked L) (acyclic : NoSelfDerivation L) where
         alone_or_empty (inr (inr pos)) full e = inr (other (cases_order before 0))
           where
             other : (before ≡ 0) ⊎ ((before < 0) ⊎ (0 < before)) → CanBeEmpty L p
-            other (inl none) = turns_empty p (free - 1) v ts e (omega arith) ds
+            other (inl none) = turns_empty L p (free - 1) v ts e (omega arith) ds
             other (inr (inl never)) = absurd (omega arith)
             other (inr (inr some)) = empty (omega (arith, ap length z, length-append u v)) some
 

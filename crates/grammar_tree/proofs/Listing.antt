@@ -14,7 +14,7 @@ use Rattle.grammar_tree.specs.declared.parse_tree.ParseTree.TheVariants as tree
 use Rattle.grammar_tree.specs.Links.{Rules, node_at, rule_at}
 use Rattle.grammar_tree.specs.Derives.{Words, IsAtMost, HasTree, Derives, by_token, by_seq, by_alt, by_rep, by_ref, by_tag, by_null, by_garbage, DerivesEach, no_part, part, DerivesTurns, no_turn, turn}
 use Rattle.grammar_tree.proofs.Depth.{height, height_each, height_turns}
-use Rattle.grammar_tree.proofs.Lists.{In, in_left, in_right, in_flat, in_map}
+use Rattle.grammar_tree.proofs.Lists.{AnyByRecursion, any_left, any_right, any_flat, any_map}
 
 -- ---- decisions
 
@@ -54,7 +54,7 @@ splits (w ∷ ws) = ([], w ∷ ws, refl) ∷ map (λ s. (w ∷ s.0, s.1, ap (λ 
 abbrev Cut : (ws u v : Words) → Split ws → Type 0
 Cut ws u v s = (s.0 ≡ u) × (s.1 ≡ v)
 
-has_split : (ws u v : Words) → ws ≡ u ++ v → In (Cut ws u v) (splits ws)
+has_split : (ws u v : Words) → ws ≡ u ++ v → AnyByRecursion (Cut ws u v) (splits ws)
 unfolding splits
 has_split [] [] v e = inl (refl, e)
 has_split [] (x ∷ u) v e = absurd (cc)
@@ -62,7 +62,7 @@ has_split (w ∷ ws) [] v e = inl (refl, e)
 has_split (w ∷ ws) (x ∷ u) v e =
     let e' : ws ≡ u ++ v = cc in
     let w' : w ≡ x = cc in
-    inr (in_map (Cut ws u v) (Cut (w ∷ ws) (x ∷ u) v) _ (splits ws) (has_split ws u v e') (λ s c. let h : w ∷ s.0 ≡ x ∷ u = cc (c.0) in (h, c.1)))
+    inr (any_map (Cut ws u v) (Cut (w ∷ ws) (x ∷ u) v) _ (splits ws) (has_split ws u v e') (λ s c. let h : w ∷ s.0 ≡ x ∷ u = cc (c.0) in (h, c.1)))
 
 module _ (L : Rules) where
   abbrev pub All : Type 0
@@ -146,64 +146,64 @@ module _ (L : Rules) where
 
   -- what the trees below have
   abbrev pub Has : All → ℕ → Type 0
-  Has all h = (n : NodeIx) (ws : Words) (t : ParseTree) (d : Derives L n ws t) → height L n ws t d ≤ h → In (IsTree n ws t) (all n ws)
+  Has all h = (n : NodeIx) (ws : Words) (t : ParseTree) (d : Derives L n ws t) → height L n ws t d ≤ h → AnyByRecursion (IsTree n ws t) (all n ws)
 
   -- the trees over u are those over an equal list
-  moved : (all : All) (p : NodeIx) (u s : Words) (t : ParseTree) → s ≡ u → In (IsTree p u t) (all p u) → In (IsTree p s t) (all p s)
-  moved all p u s t e h = subst (λ x. In (IsTree p x t) (all p x)) (sym e) h
+  moved : (all : All) (p : NodeIx) (u s : Words) (t : ParseTree) → s ≡ u → AnyByRecursion (IsTree p u t) (all p u) → AnyByRecursion (IsTree p s t) (all p s)
+  moved all p u s t e h = subst (λ x. AnyByRecursion (IsTree p x t) (all p x)) (sym e) h
 
   has_each : (all : All) (h : ℕ) → Has all h → (ps : List NodeIx) (ws : Words) (ts : List ParseTree) (d : DerivesEach L ps ws ts) → height_each L ps ws ts d ≤ h →
-      In (λ c. c.0 ≡ ts) (all_each all ps ws)
+      AnyByRecursion (λ c. c.0 ≡ ts) (all_each all ps ws)
   unfolding all_each
   has_each all h has _ [] _ (no_part z) le = inl refl
   has_each all h has _ (w ∷ ws) _ (no_part z) le = absurd (cc)
   has_each all h has _ ws _ (part {p = p} {ps = ps} {t = t} {ts = ts} u v z d ds) le =
       let rest = has_each all h has ps v ts ds (omega arith) in
       let first = has p u t d (omega arith) in
-      in_flat (Cut ws u v) (λ c. c.0 ≡ t ∷ ts) _ (splits ws) (has_split ws u v z) (λ s cut.
-      in_flat (IsTree p s.0 t) (λ c. c.0 ≡ t ∷ ts) _ (all p s.0) (moved all p u s.0 t cut.0 first) (λ c is.
-      in_map (λ r. r.0 ≡ ts) (λ c. c.0 ≡ t ∷ ts) _ (all_each all ps s.1) (subst (λ x. In (λ r. r.0 ≡ ts) (all_each all ps x)) (sym cut.1) rest) (λ r same.
+      any_flat (Cut ws u v) (λ c. c.0 ≡ t ∷ ts) _ (splits ws) (has_split ws u v z) (λ s cut.
+      any_flat (IsTree p s.0 t) (λ c. c.0 ≡ t ∷ ts) _ (all p s.0) (moved all p u s.0 t cut.0 first) (λ c is.
+      any_map (λ r. r.0 ≡ ts) (λ c. c.0 ≡ t ∷ ts) _ (all_each all ps s.1) (subst (λ x. AnyByRecursion (λ r. r.0 ≡ ts) (all_each all ps x)) (sym cut.1) rest) (λ r same.
       same_cons c.0 t r.0 ts is same)))
 
-  has_ended : (p : NodeIx) (free : ℕ) (ws : Words) → ws ≡ [] → In (λ c. c.0 ≡ []) (ended p free ws)
+  has_ended : (p : NodeIx) (free : ℕ) (ws : Words) → ws ≡ [] → AnyByRecursion (λ c. c.0 ≡ []) (ended p free ws)
   unfolding ended
   has_ended p free [] e = inl refl
   has_ended p free (w ∷ ws) e = absurd (cc)
 
-  has_may : (free : ℕ) (u s : Words) → s ≡ u → (free ≡ 0 → u ≢ []) → In (λ ok. Unit {0}) (may free s)
+  has_may : (free : ℕ) (u s : Words) → s ≡ u → (free ≡ 0 → u ≢ []) → AnyByRecursion (λ ok. Unit {0}) (may free s)
   unfolding may
   has_may (suc free) u s e ok = inl tt
   has_may zero u [] e ok = absurd (ok refl (sym e))
   has_may zero u (w ∷ s) e ok = inl tt
 
   has_turns : (all : All) (h : ℕ) → Has all h → (turns : ℕ) (p : NodeIx) (free : ℕ) (ws : Words) (ts : List ParseTree) (d : DerivesTurns L p free ws ts) →
-      height_turns L p free ws ts d ≤ h → length ts ≤ turns → In (λ c. c.0 ≡ ts) (all_turns all turns p free ws)
+      height_turns L p free ws ts d ≤ h → length ts ≤ turns → AnyByRecursion (λ c. c.0 ≡ ts) (all_turns all turns p free ws)
   unfolding all_turns
   has_turns all h has zero p free ws _ (no_turn z) le few = has_ended p free ws z
-  has_turns all h has (suc k) p free ws _ (no_turn z) le few = in_left (λ c. c.0 ≡ []) _ _ (has_ended p free ws z)
+  has_turns all h has (suc k) p free ws _ (no_turn z) le few = any_left (λ c. c.0 ≡ []) _ _ (has_ended p free ws z)
   has_turns all h has zero p free ws _ (turn {t = t} {ts = ts} u v z ok d ds) le few = absurd (omega arith)
   has_turns all h has (suc k) p free ws _ (turn {t = t} {ts = ts} u v z ok d ds) le few =
       let rest = has_turns all h has k p (free - 1) v ts ds (omega arith) (omega arith) in
       let first = has p u t d (omega arith) in
-      in_right (λ c. c.0 ≡ t ∷ ts) (ended p free ws) _ (
-      in_flat (Cut ws u v) (λ c. c.0 ≡ t ∷ ts) _ (splits ws) (has_split ws u v z) (λ s cut.
-      in_flat (λ ok. Unit {0}) (λ c. c.0 ≡ t ∷ ts) _ (may free s.0) (has_may free u s.0 cut.0 ok) (λ ok yes.
-      in_flat (IsTree p s.0 t) (λ c. c.0 ≡ t ∷ ts) _ (all p s.0) (moved all p u s.0 t cut.0 first) (λ c is.
-      in_map (λ r. r.0 ≡ ts) (λ c. c.0 ≡ t ∷ ts) _ (all_turns all k p (free - 1) s.1) (subst (λ x. In (λ r. r.0 ≡ ts) (all_turns all k p (free - 1) x)) (sym cut.1) rest) (λ r same.
+      any_right (λ c. c.0 ≡ t ∷ ts) (ended p free ws) _ (
+      any_flat (Cut ws u v) (λ c. c.0 ≡ t ∷ ts) _ (splits ws) (has_split ws u v z) (λ s cut.
+      any_flat (λ ok. Unit {0}) (λ c. c.0 ≡ t ∷ ts) _ (may free s.0) (has_may free u s.0 cut.0 ok) (λ ok yes.
+      any_flat (IsTree p s.0 t) (λ c. c.0 ≡ t ∷ ts) _ (all p s.0) (moved all p u s.0 t cut.0 first) (λ c is.
+      any_map (λ r. r.0 ≡ ts) (λ c. c.0 ≡ t ∷ ts) _ (all_turns all k p (free - 1) s.1) (subst (λ x. AnyByRecursion (λ r. r.0 ≡ ts) (all_turns all k p (free - 1) x)) (sym cut.1) rest) (λ r same.
       same_cons c.0 t r.0 ts is same)))))
 
-  has_place : (ps : List NodeIx) (k : ℕ) (p : NodeIx) → slice_get ps k ≡ Some p → In (λ l. (l.0 ≡ k) × (l.1 ≡ p)) (places ps)
+  has_place : (ps : List NodeIx) (k : ℕ) (p : NodeIx) → slice_get ps k ≡ Some p → AnyByRecursion (λ l. (l.0 ≡ k) × (l.1 ≡ p)) (places ps)
   unfolding places
   has_place [] k p g = absurd (cc)
   has_place (m ∷ ps) zero p g = let e : m ≡ p = cc in inl (refl, e)
-  has_place (m ∷ ps) (suc k) p g = inr (in_map (λ l. (l.0 ≡ k) × (l.1 ≡ p)) (λ l. (l.0 ≡ suc k) × (l.1 ≡ p)) _ (places ps) (has_place ps k p g) (λ l h. (ap suc h.0, h.1)))
+  has_place (m ∷ ps) (suc k) p g = inr (any_map (λ l. (l.0 ≡ k) × (l.1 ≡ p)) (λ l. (l.0 ≡ suc k) × (l.1 ≡ p)) _ (places ps) (has_place ps k p g) (λ l h. (ap suc h.0, h.1)))
 
-  has_token : (n : NodeIx) (us ws : Words) (e : node_at L n ≡ Some (node.Token us)) (t : ParseTree) → us ≡ ws → t ≡ tree.Token ws → (o : (us ≡ ws) ⊎ (us ≡ ws → ⊥)) → In (IsTree n ws t) (token_of n us ws e o)
+  has_token : (n : NodeIx) (us ws : Words) (e : node_at L n ≡ Some (node.Token us)) (t : ParseTree) → us ≡ ws → t ≡ tree.Token ws → (o : (us ≡ ws) ⊎ (us ≡ ws → ⊥)) → AnyByRecursion (IsTree n ws t) (token_of n us ws e o)
   unfolding token_of
   has_token n us ws e t h q (inl g) = inl (sym q)
   has_token n us ws e t h q (inr g) = absurd (g h)
 
-  has_none : (n : NodeIx) (ws : Words) (t u : ParseTree) (d : ws ≡ [] → Derives L n ws t) → ws ≡ [] → u ≡ t → In (IsTree n ws u) (none_of n ws t d)
+  has_none : (n : NodeIx) (ws : Words) (t u : ParseTree) (d : ws ≡ [] → Derives L n ws t) → ws ≡ [] → u ≡ t → AnyByRecursion (IsTree n ws u) (none_of n ws t d)
   unfolding none_of
   has_none n [] t u d z q = inl (sym q)
   has_none n (w ∷ ws) t u d z q = absurd (cc)
@@ -224,35 +224,35 @@ module _ (L : Rules) where
   has_rep : (n : NodeIx) (ws : Words) (least : ℕ) (most : Option ℕ) (p : NodeIx) (e : node_at L n ≡ Some (node.Rep least most p)) (t : ParseTree) → (r : CoversTurns p least ws) → t ≡ tree.Rep r.0 →
       least ≤ length r.0 → IsAtMost most (length r.0) →
       (a : ((leb least (length r.0) ≡ true) × (least ≤ length r.0)) ⊎ ((leb least (length r.0) ≡ false) × (length r.0 < least))) (b : IsAtMost most (length r.0) ⊎ (IsAtMost most (length r.0) → ⊥)) →
-      In (IsTree n ws t) (rep_kept n ws least most p e r a b)
+      AnyByRecursion (IsTree n ws t) (rep_kept n ws least most p e r a b)
   unfolding rep_kept
   has_rep n ws least most p e t r q lo hi (inl a) (inl b) = inl (sym q)
   has_rep n ws least most p e t r q lo hi (inl a) (inr b) = absurd (b hi)
   has_rep n ws least most p e t r q lo hi (inr a) b = absurd (omega (arith, a.1))
 
   has_rule : (all : All) (h : ℕ) → Has all h → (n : NodeIx) (ws : Words) (t : ParseTree) (r : RuleIx) (e : node_at L n ≡ Some (node.Ref r)) (rule : LinkedRule) (u : ParseTree) → rule_at L r ≡ Some rule → t ≡ tree.Rule r u →
-      (d : Derives L rule.body ws u) → height L rule.body ws u d ≤ h → (o : Option LinkedRule) (g : rule_at L r ≡ o) → In (IsTree n ws t) (rule_of all n ws r e o g)
+      (d : Derives L rule.body ws u) → height L rule.body ws u d ≤ h → (o : Option LinkedRule) (g : rule_at L r ≡ o) → AnyByRecursion (IsTree n ws t) (rule_of all n ws r e o g)
   unfolding rule_of
   has_rule all h has n ws t r e rule u g q d le None g' = absurd (cc)
   has_rule all h has n ws t r e rule u g q d le (Some rule') g' =
       let same : rule ≡ rule' = cc in
-      in_map (IsTree rule'.body ws u) (IsTree n ws t) _ (all rule'.body ws) (subst (λ x. In (IsTree x.body ws u) (all x.body ws)) same (has rule.body ws u d le)) (λ c is. ap (tree.Rule r) is ∙ sym q)
+      any_map (IsTree rule'.body ws u) (IsTree n ws t) _ (all rule'.body ws) (subst (λ x. AnyByRecursion (IsTree x.body ws u) (all x.body ws)) same (has rule.body ws u d le)) (λ c is. ap (tree.Rule r) is ∙ sym q)
 
   module _ (all : All) (h : ℕ) (has : Has all h) (n : NodeIx) (ws : Words) (t : ParseTree) where
     abbrev Level : Option Node → Type 0
-    Level o = (e : node_at L n ≡ o) → In (IsTree n ws t) (level all n ws o e)
+    Level o = (e : node_at L n ≡ o) → AnyByRecursion (IsTree n ws t) (level all n ws o e)
 
     has_level : (d : Derives L n ws t) → height L n ws t d ≤ suc h → Level (node_at L n)
     unfolding level
     has_level (by_token e q) le = subst Level (sym e) (λ e. has_token n ws ws e t refl q (same_words ws ws))
     has_level (by_seq ps ts e q d) le = subst Level (sym e) (λ e.
-        in_map (λ r. r.0 ≡ ts) (IsTree n ws t) _ (all_each all ps ws) (has_each all h has ps ws ts d (omega arith)) (λ r is. ap tree.Seq is ∙ sym q))
+        any_map (λ r. r.0 ≡ ts) (IsTree n ws t) _ (all_each all ps ws) (has_each all h has ps ws ts d (omega arith)) (λ r is. ap tree.Seq is ∙ sym q))
     has_level (by_alt ps k p u e g q d) le = subst Level (sym e) (λ e.
-        in_flat (λ l. (l.0 ≡ k) × (l.1 ≡ p)) (IsTree n ws t) _ (places ps) (has_place ps k p g) (λ l is.
-        in_map (IsTree l.1 ws u) (IsTree n ws t) _ (all l.1 ws) (subst (λ x. In (IsTree x ws u) (all x ws)) (sym is.1) (has p ws u d (omega arith))) (λ c same.
+        any_flat (λ l. (l.0 ≡ k) × (l.1 ≡ p)) (IsTree n ws t) _ (places ps) (has_place ps k p g) (λ l is.
+        any_map (IsTree l.1 ws u) (IsTree n ws t) _ (all l.1 ws) (subst (λ x. AnyByRecursion (IsTree x ws u) (all x ws)) (sym is.1) (has p ws u d (omega arith))) (λ c same.
         ap (tree.Alt l.0) same ∙ ap (λ j. tree.Alt j u) is.0 ∙ sym q)))
     has_level (by_rep least most p ts e q lo hi d) le = subst Level (sym e) (λ e.
-        in_flat (λ r. r.0 ≡ ts) (IsTree n ws t) _ (all_turns all (least + length ws) p least ws) (has_turns all h has (least + length ws) p least ws ts d (omega arith) (few_turns p least ws ts d)) (λ r is.
+        any_flat (λ r. r.0 ≡ ts) (IsTree n ws t) _ (all_turns all (least + length ws) p least ws) (has_turns all h has (least + length ws) p least ws ts d (omega arith) (few_turns p least ws ts d)) (λ r is.
         has_rep n ws least most p e t r (q ∙ ap tree.Rep (sym is)) (subst (λ x. least ≤ length x) (sym is) lo) (subst (λ x. IsAtMost most (length x)) (sym is) hi) (leb_tells least (length r.0)) (within most (length r.0))))
     has_level (by_ref r rule u e g q d) le = subst Level (sym e) (λ e. has_rule all h has n ws t r e rule u g q d (omega arith) (rule_at L r) refl)
     has_level (by_tag tag e z q) le = subst Level (sym e) (λ e. has_none n ws (tree.Tag n) t (λ z. by_tag tag e z refl) z q)

@@ -5,7 +5,7 @@ use Rattle.std.specs.List.Sorted.{IsStrictlySortedBy}
 use Rattle.std.specs.declared.cmp.Ordering.TheVariants.{Less, Equal}
 use Rattle.std.proofs.lemmas.Cmp.{nat_list_cmp_total}
 use Rattle.grammar_tree.specs.Firsts.{choice_cmp}
-use Rattle.grammar_tree.proofs.Lists.{In}
+use Rattle.grammar_tree.proofs.Lists.{AnyByRecursion}
 use Rattle.grammar_tree.proofs.Orders.{same-Equal}
 
 abbrev pub IsBefore : List ℕ → List ℕ → Type 0
@@ -34,7 +34,7 @@ module _ {X : Type 0} (key : X → List ℕ) where
   unfolding IsStrictlySortedBy
   sorted_none = tt
 
-  pub is_after : (x y : X) (xs : List X) → AllAfter (key x) (map key xs) → In (λ z. z ≡ y) xs → IsBefore (key x) (key y)
+  pub is_after : (x y : X) (xs : List X) → AllAfter (key x) (map key xs) → AnyByRecursion (λ z. z ≡ y) xs → IsBefore (key x) (key y)
   is_after x y [] all h = absurd h
   is_after x y (z ∷ xs) all (inl e) = subst (λ z. IsBefore (key x) (key z)) e all.0
   is_after x y (z ∷ xs) all (inr h) = is_after x y xs all.1 h
@@ -46,9 +46,9 @@ module _ {X : Type 0} (key : X → List ℕ) where
   asymmetric x y h g = irreflexive x (nat_list_cmp_total.trans (key x) (key y) (key x) h g)
 
   abbrev pub Among : List X → List X → Type 0
-  Among xs ys = (x : X) → In (λ z. z ≡ x) xs → In (λ z. z ≡ x) ys
+  Among xs ys = (x : X) → AnyByRecursion (λ z. z ≡ x) xs → AnyByRecursion (λ z. z ≡ x) ys
 
-  same_head : (x y : X) (xs ys : List X) → Sorted (x ∷ xs) → Sorted (y ∷ ys) → In (λ z. z ≡ x) (y ∷ ys) → In (λ z. z ≡ y) (x ∷ xs) → x ≡ y
+  same_head : (x y : X) (xs ys : List X) → Sorted (x ∷ xs) → Sorted (y ∷ ys) → AnyByRecursion (λ z. z ≡ x) (y ∷ ys) → AnyByRecursion (λ z. z ≡ y) (x ∷ xs) → x ≡ y
   same_head x y xs ys s r (inl e) g = sym e
   same_head x y xs ys s r (inr h) (inl e) = e
   same_head x y xs ys s r (inr h) (inr g) = absurd (asymmetric x y (is_after x y xs (sorted_head x xs s).0 g) (is_after y x ys (sorted_head y ys r).0 h))
@@ -56,7 +56,7 @@ module _ {X : Type 0} (key : X → List ℕ) where
   same_rest : (x y : X) (xs ys : List X) → x ≡ y → AllAfter (key x) (map key xs) → Among (x ∷ xs) (y ∷ ys) → Among xs ys
   same_rest x y xs ys e all to z h = at (to z (inr h))
     where
-      at : In (λ v. v ≡ z) (y ∷ ys) → In (λ v. v ≡ z) ys
+      at : AnyByRecursion (λ v. v ≡ z) (y ∷ ys) → AnyByRecursion (λ v. v ≡ z) ys
       at (inl f) = absurd (irreflexive x (subst (λ v. IsBefore (key x) (key v)) (sym (e ∙ f)) (is_after x z xs all h)))
       at (inr g) = g
 

@@ -3,11 +3,15 @@ pub mod Choices
 pub mod Comparing
 pub mod Derives
 pub mod DocSets
+pub mod EmptyNodes
 pub mod Firsts
 pub mod Leaves
 pub mod Links
 pub mod Longer
 pub mod Reached
+pub mod ReadingOrder
 pub mod Samples
+pub mod SetLaws
 pub mod Size
+pub mod SpanLaws
 pub mod Laws

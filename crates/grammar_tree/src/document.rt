@@ -5,7 +5,7 @@ use sqlite_items::Items;
 use vg_base::{DocFault, Format, Mode, Place, Text};
 
 /// A rule definition, and where its name stands (SRGS 1.0, section 3).
-#[derive(Drop)]
+#[derive(Debug, Drop)]
 pub struct Rule {
     pub place: Place,
     pub public: bool,
@@ -14,7 +14,7 @@ pub struct Rule {
 }
 
 /// A document without a fault: its declarations (SRGS 1.0, section 4) and its rules in written order.
-#[derive(Drop)]
+#[derive(Debug, Drop)]
 pub struct Doc {
     pub mode: Mode,
     pub root: Option<Text>,
@@ -24,7 +24,7 @@ pub struct Doc {
 }
 
 /// What a text reads as: a document, or the one fault that is told of it.
-#[derive(Drop)]
+#[derive(Debug, Drop)]
 pub enum ReadDoc {
     Good(Doc),
     Bad(DocFault),

@@ -6,7 +6,7 @@ use vg_base::{Place, Script, Text, Word};
 /// What a rule's right side stands for.
 ///
 /// A group of one part is that part; `()` and a repeat of most 0 are `Null`; `[e]` is a repeat of least 0 and most 1.
-#[derive(Drop)]
+#[derive(Debug, Drop)]
 pub enum Expansion {
     /// The words of a token, one after another (section 2.1); none for a token of white space alone.
     Token(Items<Word>),
@@ -33,14 +33,14 @@ pub enum Expansion {
 }
 
 /// A rule reference, and where it stands in its document.
-#[derive(Drop)]
+#[derive(Debug, Drop, PartialEq, Eq)]
 pub struct Reference {
     pub place: Place,
     pub goal: Goal,
 }
 
 /// Which rule a reference names (SRGS 1.0, section 2.2).
-#[derive(Debug, Drop)]
+#[derive(Debug, Drop, PartialEq, Eq)]
 pub enum Goal {
     /// A rule of the same document.
     Local(Text),
@@ -51,7 +51,7 @@ pub enum Goal {
 }
 
 /// A tag, where it stands, its text between the braces, and the script that a script document's text reads as.
-#[derive(Drop)]
+#[derive(Debug, Drop)]
 pub struct TagNode {
     pub place: Place,
     pub text: Text,

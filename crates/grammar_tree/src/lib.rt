@@ -9,8 +9,10 @@ mod expansion;
 pub mod laws;
 mod linked;
 mod parse_tree;
+mod sameness;
 pub mod samples;
 mod sizes;
+mod threads;
 
 pub use comparing::compare;
 pub use copies::copy_words;
@@ -19,6 +21,7 @@ pub use document::{Doc, ReadDoc, Rule};
 pub use expansion::{Expansion, Goal, Reference, TagNode};
 pub use linked::{Linked, LinkedRule, Node};
 pub use parse_tree::ParseTree;
+pub use sameness::is_same;
 pub use sizes::size;
 
 #[cfg(test)]

@@ -10,7 +10,7 @@ use std::marker::Model;
 use vg_base::{DocIx, NodeIx, RuleIx, Text, Word};
 
 /// An expansion whose parts and reference are numbers.
-#[derive(Drop)]
+#[derive(Debug, Drop)]
 pub enum Node {
     Token(Items<Word>),
     Seq(Items<NodeIx>),
@@ -28,7 +28,7 @@ pub enum Node {
 }
 
 /// A rule with its document's number, from 0, and the node of its body.
-#[derive(Debug, Drop)]
+#[derive(Debug, Drop, PartialEq, Eq)]
 pub struct LinkedRule {
     pub doc: DocIx,
     pub name: Text,
@@ -39,7 +39,7 @@ pub struct LinkedRule {
 /// Rules of documents that were linked. Contracts see the lists of nodes and rules; the type keeps that
 /// every number is in range, that a part's number is above its node's, that each node is the body of one rule
 /// or a part of one node, and that 32 bits number the nodes.
-#[derive(Drop)]
+#[derive(Debug, Drop)]
 pub struct Linked {
     nodes: Items<Node>,
     rules: Items<LinkedRule>,
@@ -87,7 +87,7 @@ impl Linked {
         requires { at.0 < length self.now.nodes }
         ensures value { slice_get self.now.nodes at.0 ≡ Some result.now }
         ensures parts { All (λ part. (at.0 < part.0) × (part.0 < length self.now.nodes)) (parts result.now) }
-        ensures few { length (parts result.now) ≤ 2 ^ 32 }
+        ensures few { length (parts result.now) < 2 ^ 32 }
         ensures refers { RefersBelow (length self.now.rules) result.now }
     {
         &self.nodes.as_slice()[at.0 as usize]

@@ -4,7 +4,7 @@ use sqlite_items::{Boxed, Items};
 use vg_base::{NodeIx, RuleIx, Word};
 
 /// How a node derives words, level by level, after the logical parse structure (SRGS 1.0, appendix H).
-#[derive(Drop)]
+#[derive(Debug, Drop)]
 pub enum ParseTree {
     Token(Items<Word>),
     Seq(Items<ParseTree>),

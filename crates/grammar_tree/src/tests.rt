@@ -1,6 +1,6 @@
 use crate::{
-    Doc, Expansion, Goal, Linked, LinkedRule, Node, ParseTree, ReadDoc, Reference, Rule, TagNode,
-    compare, size,
+    Doc, DocSet, DocText, Expansion, Goal, Linked, LinkedRule, Node, ParseTree, ReadDoc, Reference,
+    Rule, TagNode, compare, is_same, size,
 };
 use sqlite_items::{Boxed, Items};
 use std::alloc::Global;
@@ -176,7 +176,9 @@ fn expect_first(rt: &impl Abort, one: ParseTree, other: ParseTree) {
 #[test]
 fn a_tree_is_the_same_as_its_copy(rt: HostRuntime) -> Result<(), Fail> {
     let tree = after_rule(rt.alloc(), turns(rt.alloc(), 2)?, taken(rt.alloc(), 1)?)?;
-    assert!(rt; compare(&tree, &tree.copy(rt.alloc())?) == Ordering::Equal);
+    let copy = tree.copy(rt.alloc())?;
+    assert!(rt; compare(&tree, &copy) == Ordering::Equal);
+    assert!(rt; is_same(&tree, &copy) && !is_same(&tree, &ParseTree::Null));
     Ok(())
 }
 
@@ -206,5 +208,40 @@ fn linked_rules_can_be_made(rt: HostRuntime) -> Result<(), Fail> {
     })?;
     let linked = Linked::new(nodes, rules);
     assert!(rt; matches!(linked.node(linked.rule(RuleIx(0)).body), Node::Null));
+    Ok(())
+}
+
+fn put(set: &mut DocSet, alloc: Global, key: &str, text: &str) -> Result<Option<DocText>, Memory> {
+    let doc = DocText {
+        key: Text::of(alloc, key)?,
+        text: Text::of(alloc, text)?,
+    };
+    Ok(set.put(doc)?)
+}
+
+#[test]
+fn a_standing_key_keeps_its_place(rt: HostRuntime) -> Result<(), Fail> {
+    let mut set = DocSet::open(rt.alloc());
+    put(&mut set, rt.alloc(), "a", "1")?;
+    put(&mut set, rt.alloc(), "b", "2")?;
+    let former = put(&mut set, rt.alloc(), "a", "3")?;
+    assert!(rt; former.is_some());
+    let docs = set.into_docs();
+    let [first, second] = docs.as_slice() else {
+        return Err(Fail::from("two keys are two documents"));
+    };
+    assert_eq!(rt; first.text.as_str(), "3");
+    assert_eq!(rt; second.text.as_str(), "2");
+    Ok(())
+}
+
+#[test]
+fn a_dropped_key_is_found_no_more(rt: HostRuntime) -> Result<(), Fail> {
+    let mut set = DocSet::open(rt.alloc());
+    put(&mut set, rt.alloc(), "a", "1")?;
+    let key = Text::of(rt.alloc(), "a")?;
+    assert!(rt; set.find(&key).is_some());
+    assert!(rt; set.remove(&key).is_some());
+    assert!(rt; set.find(&key).is_none() && set.is_empty());
     Ok(())
 }

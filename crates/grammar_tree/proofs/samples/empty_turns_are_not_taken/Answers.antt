@@ -43,8 +43,18 @@ is_inner tag t d =
     let c = at_node (empty_turns tag) (at 1) (xs 1) t (node.Seq (at 2 ∷ (at 4 ∷ []))) refl d in
     c.1 ∙ parts_inner tag (xs 1) c.0 refl c.2
 
+no_turn_first : (tag : TagNode) → First (empty_turns tag) (at 0) [] (tree.Rep [])
+no_turn_first tag =
+    only_first (empty_turns tag) (at 0) [] (tree.Rep []) (by_rep 0 None (at 1) [] refl refl (omega arith) tt (no_turn refl))
+    (λ u d.
+    let k = at_node (empty_turns tag) (at 0) [] u (node.Rep 0 None (at 1)) refl d in
+    k.1 ∙ ap tree.Rep (no_turns (empty_turns tag) (at 1) [] k.0 refl k.4))
+
 pub returns-clause-none : goal.returns-clause-none
-returns-clause-none c tag t h =
+returns-clause-none c tag = (named 114 0, refl, no_turn_first tag)
+
+pub returns-clause-only : goal.returns-clause-only
+returns-clause-only c tag t h =
     let d = at_body (empty_turns tag) (rule 0) (λ n. Derives (empty_turns tag) n [] t) (named 114 0) refl h in
     let k = at_node (empty_turns tag) (at 0) [] t (node.Rep 0 None (at 1)) refl d in
     k.1 ∙ ap tree.Rep (no_turns (empty_turns tag) (at 1) [] k.0 refl k.4)

@@ -11,7 +11,7 @@ use Rattle.grammar_tree.specs.Derives.{Words, Derives, by_token, by_seq, by_alt,
 use Rattle.grammar_tree.specs.Choices.{choices}
 use Rattle.grammar_tree.specs.Firsts.{choice_cmp, InOrder}
 use Rattle.grammar_tree.specs.Samples.{at, named, xs, token_x, alternatives}
-use Rattle.grammar_tree.proofs.Lists.{In, in_if_contained, contained_if_in}
+use Rattle.grammar_tree.proofs.Lists.{AnyByRecursion, any_if_contained, contained_if_any}
 use Rattle.grammar_tree.proofs.Sorting.{head_first}
 use Rattle.grammar_tree.proofs.Views.{at_node, chosen_alt}
 use Rattle.grammar_tree.proofs.samples.first_alternative_wins.Goals as goal
@@ -40,7 +40,7 @@ module _ (tag : TagNode) where
       let k' = at_node (alternatives tag) (at 4) f' u (node.Tag tag) refl d' in
       ap (λ v. tree.Seq (v ∷ (u ∷ []))) (k.1 ∙ ap tree.Token k.0) ∙ ap (λ v. tree.Seq (token_x ∷ (v ∷ []))) k'.1
 
-  taken : (k : ℕ) (p : NodeIx) (u t : ParseTree) → slice_get (at 1 ∷ (at 2 ∷ [])) k ≡ Some p → t ≡ tree.Alt k u → Derives (alternatives tag) p (xs 1) u → In (λ v. v ≡ t) (first ∷ (second ∷ []))
+  taken : (k : ℕ) (p : NodeIx) (u t : ParseTree) → slice_get (at 1 ∷ (at 2 ∷ [])) k ≡ Some p → t ≡ tree.Alt k u → Derives (alternatives tag) p (xs 1) u → AnyByRecursion (λ v. v ≡ t) (first ∷ (second ∷ []))
   taken zero p u t g q d =
       let same : at 1 ≡ p = cc in
       let k = at_node (alternatives tag) (at 1) (xs 1) u (node.Token (xs 1)) refl (subst (λ m. Derives (alternatives tag) m (xs 1) u) (sym same) d) in
@@ -51,12 +51,12 @@ module _ (tag : TagNode) where
       inr (inl (sym (q ∙ ap (tree.Alt 1) (k.1 ∙ is_tagged (xs 1) k.0 k.2))))
   taken (suc (suc k)) p u t g q d = absurd (cc)
 
-  one_of_two : (t : ParseTree) → Derives (alternatives tag) (at 0) (xs 1) t → In (λ v. v ≡ t) (first ∷ (second ∷ []))
+  one_of_two : (t : ParseTree) → Derives (alternatives tag) (at 0) (xs 1) t → AnyByRecursion (λ v. v ≡ t) (first ∷ (second ∷ []))
   one_of_two t d =
       let k = at_node (alternatives tag) (at 0) (xs 1) t (node.Alt (at 1 ∷ (at 2 ∷ []))) refl d in
       taken k.0 k.1 k.2 t k.3 k.4 k.5
 
-  each_derives : (t : ParseTree) → In (λ v. v ≡ t) (first ∷ (second ∷ [])) → Derives (alternatives tag) (at 0) (xs 1) t
+  each_derives : (t : ParseTree) → AnyByRecursion (λ v. v ≡ t) (first ∷ (second ∷ [])) → Derives (alternatives tag) (at 0) (xs 1) t
   each_derives t (inl e) = subst (Derives (alternatives tag) (at 0) (xs 1)) e derives_first
   each_derives t (inr (inl e)) = subst (Derives (alternatives tag) (at 0) (xs 1)) e derives_second
   each_derives t (inr (inr none)) = absurd none
@@ -72,7 +72,7 @@ module _ (tag : TagNode) where
 
   in_order : InOrder (alternatives tag) (at 0) (xs 1) (first ∷ (second ∷ []))
   in_order = record {
-    trees = λ t. (λ h. each_derives t (in_if_contained (first ∷ (second ∷ [])) t h), λ d. contained_if_in (first ∷ (second ∷ [])) t (one_of_two t d));
+    trees = λ t. (λ h. each_derives t (any_if_contained (first ∷ (second ∷ [])) t h), λ d. contained_if_any (first ∷ (second ∷ [])) t (one_of_two t d));
     rising = rising;
   }
 

@@ -1,5 +1,6 @@
 use Rattle.std.proofs.Common.{ℕ, ◌≤◌, ◌≡◌, ◌≢◌, ◌⊎◌, List, [], ◌∷◌, ◌++◌, Some, length, refl, sym, ap, ◌∙◌, subst, inl, inr, arith, length-append}
 use Rattle.std.specs.declared.cmp.Ordering.TheVariants.{Less, Equal, Greater}
+use Rattle.std.proofs.lemmas.List.{nil_from_length}
 use Rattle.grammar_tree.specs.declared.linked.Node.TheVariants as node
 use Rattle.grammar_tree.specs.declared.parse_tree.ParseTree.{ParseTree}
 use Rattle.grammar_tree.specs.declared.parse_tree.ParseTree.TheVariants as tree
@@ -123,3 +124,18 @@ returns-clause-three c h =
     let k = at_node optional_repeated (at 0) (xs 3) d.0 (node.Rep 2 (Some 2) (at 1)) refl d.1 in
     let short = two_short (xs 3) k.0 2 k.3 k.4 in
     omega (arith, short)
+
+derives_two : Derives optional_repeated (at 0) (xs 2) (tree.Rep (taken ∷ (taken ∷ [])))
+derives_two =
+    by_rep 2 (Some 2) (at 1) (taken ∷ (taken ∷ [])) refl refl (omega arith) (omega arith)
+    (turn (xs 1) (xs 1) refl (λ z. absurd (omega arith)) derives_taken (turn (xs 1) [] refl (λ z. absurd (omega arith)) derives_taken (no_turn refl)))
+
+pub returns-clause-goes_on : goal.returns-clause-goes_on
+returns-clause-goes_on c = (xs 1, (λ e. cc), (named 114 0, refl, (tree.Rep (taken ∷ (taken ∷ [])), derives_two)))
+
+pub returns-clause-full : goal.returns-clause-full
+returns-clause-full c h =
+    let d = at_body optional_repeated (rule 0) (λ n. HasTree optional_repeated n (xs 2 ++ h.0)) (named 114 0) refl h.2 in
+    let k = at_node optional_repeated (at 0) (xs 2 ++ h.0) d.0 (node.Rep 2 (Some 2) (at 1)) refl d.1 in
+    let short = two_short (xs 2 ++ h.0) k.0 2 k.3 k.4 in
+    h.1 (nil_from_length h.0 (omega (arith, short, length-append (xs 2) h.0)))
