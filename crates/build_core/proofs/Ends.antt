@@ -1,5 +1,5 @@
 -- A sound state at its end, and how many events come before.
-use Rattle.std.proofs.Common.{◌≡◌, ◌≢◌, ℕ, zero, suc, ◌+◌, ◌*◌, ◌<◌, ◌≤◌, List, [], ◌∷◌, ◌++◌, length, take, get_or, length-take, subst, refl, sym, ap, ◌∙◌, arith, ⊎_elim}
+use Rattle.std.proofs.Common.{◌≡◌, ◌≢◌, ℕ, zero, suc, ◌+◌, ◌*◌, ◌-◌, ◌<◌, ◌≤◌, List, [], ◌∷◌, ◌++◌, length, take, get_or, length-take, length-append, subst, refl, sym, ap, ◌∙◌, arith, ⊎_elim}
 use Rattle.std.specs.Prelude.{slice_set}
 use Rattle.std.proofs.Math.ListN.{length-set}
 use Rattle.std.proofs.lemmas.List.{take_more}
@@ -10,7 +10,7 @@ use Rattle.build_core.specs.declared.event.DocState.TheVariants.{Unseen, Wanted,
 use Rattle.build_core.specs.declared.event.Event.{Event}
 use Rattle.build_core.specs.declared.event.Event.TheVariants.{Want, Claim, Finish}
 use Rattle.build_core.specs.Rows.{Reached, entry, import}
-use Rattle.build_core.specs.Core.{Core, at, Sound, Opening, Finished, Enabled, after, IsRun, after_all, rank, spent, DoneIsClosure}
+use Rattle.build_core.specs.Core.{Core, at, Sound, Opening, Finished, Enabled, after, IsRun, after_all, rank, spent, RunsTo, IsDone, DoneIsClosure}
 use Rattle.build_core.proofs.Keeps.{event_keeps}
 
 pub opening_sound : (imp : ℕ → ℕ → Type 0) (size : ℕ) (entries : List DocIx) (docs : List DocState) → Opening size entries docs → Sound imp entries docs
@@ -22,15 +22,15 @@ opening_sound imp size entries docs o = record {
 }
 
 module _ (imp : ℕ → ℕ → Type 0) (entries : List DocIx) (docs : List DocState) (s : Sound imp entries docs) (end : Finished docs) where
-  seen_is_done : (d : ℕ) → at docs d ≢ Unseen → (k : LoaderNo) × (at docs d ≡ Done k)
+  seen_is_done : (d : ℕ) → at docs d ≢ Unseen → IsDone docs d
   seen_is_done d n = ⊎_elim (λ u. absurd (n u)) (λ w. w) (end d)
 
-  reached_is_done : {d : ℕ} → Reached imp entries d → (k : LoaderNo) × (at docs d ≡ Done k)
+  reached_is_done : {d : ℕ} → Reached imp entries d → IsDone docs d
   reached_is_done {d} (entry st) = seen_is_done d (s.entries_seen d st)
   reached_is_done {d} (import {x} {y} r im) = let h = reached_is_done r in seen_is_done y (s.imports_seen h.0 x y h.1 im)
 
   pub done_is_closure : DoneIsClosure imp entries docs
-  done_is_closure d = ((λ r. reached_is_done r), (λ h. s.reached d (λ u. let w = h.1 in cc)))
+  done_is_closure d = ((λ h. s.reached d (λ u. let w = h.1 in cc)), (λ r. reached_is_done r))
 
 -- one state up is one event more
 spent_set : (docs : List DocState) (d : ℕ) (v : DocState) → d < length docs → spent (slice_set docs d v) + rank (at docs d) ≡ spent docs + rank v
@@ -46,9 +46,9 @@ spent_most (Held k ∷ xs) = let i = spent_most xs in omega arith
 spent_most (Done k ∷ xs) = let i = spent_most xs in omega arith
 
 pub event_spends : (imp : ℕ → ℕ → Type 0) (c : Core) (e : Event) → Enabled imp c e → spent (after c e).docs ≡ spent c.docs + 1
-event_spends imp c (Want k d) h = let i = spent_set c.docs d.0 Wanted h.1 in let r = ap rank h.2 in omega arith
-event_spends imp c (Claim k d) h = let i = spent_set c.docs d.0 (Held k) h.1 in let r = ap rank h.2 in omega arith
-event_spends imp c (Finish k d) h = let i = spent_set c.docs d.0 (Done k) h.1 in let r = ap rank h.2 in omega arith
+event_spends imp c (Want k d) h = let i = spent_set c.docs d.0 Wanted h.0.1 in let r = ap rank h.0.2 in omega arith
+event_spends imp c (Claim k d) h = let i = spent_set c.docs d.0 (Held k) h.0.1 in let r = ap rank h.0.2 in omega arith
+event_spends imp c (Finish k d) h = let i = spent_set c.docs d.0 (Done k) h.0.1 in let r = ap rank h.0.2 in omega arith
 
 pub run_spends : (imp : ℕ → ℕ → Type 0) (c : Core) (es : List Event) → IsRun imp c es → length es + spent c.docs ≡ spent (after_all c es).docs
 run_spends imp c [] h = omega arith
@@ -69,7 +69,7 @@ after_more c (x ∷ xs) e = after_more (after c x) xs e
 pub spent_few : (imp : ℕ → ℕ → Type 0) (c : Core) (es : List Event) → IsRun imp c es → length es ≤ 3 * length (after_all c es).docs
 spent_few imp c es r = omega (arith, run_spends imp c es r, spent_most (after_all c es).docs)
 
-length_after : (c : Core) (e : Event) → length (after c e).docs ≡ length c.docs
+pub length_after : (c : Core) (e : Event) → length (after c e).docs ≡ length c.docs
 length_after c (Want k d) = length-set c.docs d.0 Wanted
 length_after c (Claim k d) = length-set c.docs d.0 (Held k)
 length_after c (Finish k d) = length-set c.docs d.0 (Done k)
@@ -92,3 +92,35 @@ run_taken imp c es i d low r h = subst (IsRun imp c) (sym (take_more es i d low)
 
 pub after_taken : (c : Core) (es : List Event) (i : ℕ) (d : Event) → i < length es → after_all c (take (i + 1) es) ≡ after (after_all c (take i es)) (get_or es i d)
 after_taken c es i d low = ap (after_all c) (take_more es i d low) ∙ after_more c (take i es) (get_or es i d)
+
+-- a run of no events, and one of one event more
+pub runs_nowhere : (imp : ℕ → ℕ → Type 0) (c : Core) → RunsTo imp c 0 c
+runs_nowhere imp c = record { events = []; counted = refl; ran = tt; moved = refl }
+
+pub runs_on : (imp : ℕ → ℕ → Type 0) (c : Core) (n : ℕ) (d : Core) (e : Event) → RunsTo imp c n d → Enabled imp d e → RunsTo imp c (n + 1) (after d e)
+runs_on imp c n d e r h = record {
+  events = r.events ++ e ∷ [];
+  counted = length-append r.events (e ∷ []) ∙ ap (λ (k : ℕ). k + 1) r.counted;
+  ran = run_more imp c r.events e r.ran (subst (λ (s : Core). Enabled imp s e) r.moved h);
+  moved = ap (λ (s : Core). after s e) r.moved ∙ sym (after_more c r.events e);
+}
+
+module _ (imp : ℕ → ℕ → Type 0) (c : Core) (n : ℕ) (d : Core) (r : RunsTo imp c n d) where
+  pub runs_sized : length d.docs ≡ length c.docs
+  runs_sized = ap (λ (s : Core). length s.docs) r.moved ∙ length_after_all c r.events
+
+  pub runs_loaders : d.loaders ≡ c.loaders
+  runs_loaders = ap (λ (s : Core). s.loaders) r.moved ∙ loaders_after_all c r.events
+
+  pub runs_few : n ≤ 3 * length c.docs
+  runs_few = omega (arith, spent_few imp c r.events r.ran, length_after_all c r.events, r.counted)
+
+  pub runs_sound : (entries : List DocIx) → Sound imp entries c.docs → Sound imp entries d.docs
+  runs_sound entries s = subst (λ (x : Core). Sound imp entries x.docs) (sym r.moved) (run_keeps imp entries c r.events r.ran s)
+
+-- how many events may still come
+abbrev pub left : List DocState → ℕ
+left docs = 3 * length docs - spent docs
+
+pub left_falls : (imp : ℕ → ℕ → Type 0) (c : Core) (e : Event) → Enabled imp c e → left (after c e).docs < left c.docs
+left_falls imp c e h = omega (arith, event_spends imp c e h, length_after c e, spent_most (after c e).docs)

@@ -69,6 +69,6 @@ module _ (imp : ℕ → ℕ → Type 0) (entries : List DocIx) (docs : List DocS
   }
 
 pub event_keeps : (imp : ℕ → ℕ → Type 0) (c : Core) (e : Event) → Enabled imp c e → (entries : List DocIx) → Sound imp entries c.docs → Sound imp entries (after c e).docs
-event_keeps imp c (Want k d) h entries s = want_keeps imp entries c.docs k d.0 h.1 s h.2 h.3
-event_keeps imp c (Claim k d) h entries s = claim_keeps imp entries c.docs k d.0 h.1 s h.2 h.3
-event_keeps imp c (Finish k d) h entries s = finish_keeps imp entries c.docs k d.0 h.1 s h.2 h.3
+event_keeps imp c (Want k d) h entries s = want_keeps imp entries c.docs k d.0 h.0.1 s h.0.2 h.1
+event_keeps imp c (Claim k d) h entries s = claim_keeps imp entries c.docs k d.0 h.0.1 s h.0.2 h.0.3
+event_keeps imp c (Finish k d) h entries s = finish_keeps imp entries c.docs k d.0 h.0.1 s h.0.2 h.1

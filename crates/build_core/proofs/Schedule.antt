@@ -2,25 +2,25 @@
 use Rattle.std.proofs.Common.{◌≡◌, ℕ, zero, suc, ◌+◌, ◌<◌, ◌≤◌, Bool, true, false, List, [], ◌∷◌, length, None, Some, cond, inl, inr, refl, sym, ap, ◌∙◌, subst, arith}
 use Rattle.std.specs.Prelude.{Option, position, find, ◌⊎◌}
 use Rattle.std.proofs.lemmas.List.Quantifiers.{position-Some}
-use Rattle.std.specs.List.{position_from}
+use Rattle.std.specs.List.{Contains, position_from}
 use Rattle.std.proofs.lemmas.Iterator.Adapters.{position_from-zero}
 use Rattle.vg_base.specs.declared.numbers.DocIx.{DocIx}
 use Rattle.vg_base.specs.declared.numbers.LoaderNo.{LoaderNo}
 use Rattle.build_core.specs.declared.event.DocState.{DocState}
 use Rattle.build_core.specs.declared.event.DocState.TheVariants.{Unseen, Wanted, Held, Done}
 use Rattle.build_core.specs.declared.event.Event.TheVariants.{Claim}
-use Rattle.build_core.specs.Rows.{ByRows, Stands, IsClosed, ix, row}
+use Rattle.build_core.specs.Rows.{ByRows, IsClosed, ix, row}
 use Rattle.build_core.specs.Core.{Core, at, Enabled, Finished, HoldsNone, IsStanding}
 use Rattle.build_core.proofs.Opens.{inside_or_past}
 use Rattle.build_core.specs.Next.{holder, is_held, is_unseen, is_unseen_in, is_wanted, step_by, step_of}
 
 -- what a first element that passes is, and where there is none
-found_by : (p : DocIx → Bool) (x : DocIx) (xs : List DocIx) (y : DocIx) → ((e : find p xs ≡ Some y) → (p y ≡ true) × Stands xs y.0) → (b : Bool) → p x ≡ b → cond b (Some x) (find p xs) ≡ Some y
-    → (p y ≡ true) × Stands (x ∷ xs) y.0
+found_by : (p : DocIx → Bool) (x : DocIx) (xs : List DocIx) (y : DocIx) → ((e : find p xs ≡ Some y) → (p y ≡ true) × Contains xs y) → (b : Bool) → p x ≡ b → cond b (Some x) (find p xs) ≡ Some y
+    → (p y ≡ true) × Contains (x ∷ xs) y
 found_by p x xs y rest true is e = let same : x ≡ y = cc in (ap p (sym same) ∙ is, (0, omega arith, same))
 found_by p x xs y rest false is e = let (passes, (i, low, at_i)) = rest e in (passes, (suc i, omega arith, at_i))
 
-found : (p : DocIx → Bool) (xs : List DocIx) (y : DocIx) → find p xs ≡ Some y → (p y ≡ true) × Stands xs y.0
+found : (p : DocIx → Bool) (xs : List DocIx) (y : DocIx) → find p xs ≡ Some y → (p y ≡ true) × Contains xs y
 found p [] y e = cc
 found p (x ∷ xs) y e = found_by p x xs y (found p xs y) (p x) refl e
 
@@ -32,7 +32,7 @@ none_behind : (p : DocIx → Bool) (x : DocIx) (xs : List DocIx) (b : Bool) → 
 none_behind p x xs true f = cc
 none_behind p x xs false f = f
 
-none_found : (p : DocIx → Bool) (xs : List DocIx) → find p xs ≡ None → (y : ℕ) → Stands xs y → p (ix y) ≡ false
+none_found : (p : DocIx → Bool) (xs : List DocIx) → find p xs ≡ None → (y : ℕ) → Contains xs (ix y) → p (ix y) ≡ false
 none_found p [] e y (i, low, is) = absurd (omega arith)
 none_found p (x ∷ xs) e y (zero, low, is) = ap p (sym is) ∙ none_here p x xs (p x) refl e
 none_found p (x ∷ xs) e y (suc i, low, is) = none_found p xs (none_behind p x xs (p x) e) y (i, omega arith, is)
@@ -118,11 +118,11 @@ step_enabled rows c d closed sized standing e = by (find (is_unseen_in c.docs) (
   by (Some y) f =
       let (low, held) = first_held c.docs d e in
       let (unseen, there) = found (is_unseen_in c.docs) (row rows d) y f in
-      (standing.held d (holder (at c.docs d)) held, subst (λ (n : ℕ). y.0 < n) (sym sized) (closed.inside d y.0 there), unseen_is (at c.docs y.0) unseen, (d, held, there))
+      ((standing.held d (holder (at c.docs d)) held, subst (λ (n : ℕ). y.0 < n) (sym sized) (closed.inside d y.0 there), unseen_is (at c.docs y.0) unseen), (d, held, there))
   by None f =
       let (low, held) = first_held c.docs d e in
-      (standing.held d (holder (at c.docs d)) held, low, held, λ y im u. let fails = none_found (is_unseen_in c.docs) (row rows d) f y im in let holds : is_unseen (at c.docs y) ≡ true = ap is_unseen u in cc)
+      ((standing.held d (holder (at c.docs d)) held, low, held), λ y im u. let fails = none_found (is_unseen_in c.docs) (row rows d) f y im in let holds : is_unseen (at c.docs y) ≡ true = ap is_unseen u in cc)
 
 pub claim_enabled : (rows : List (List DocIx)) (c : Core) (d : ℕ) → 1 ≤ c.loaders → position is_held c.docs ≡ None → position is_wanted c.docs ≡ Some d
     → Enabled (ByRows rows) c (Claim (record { 0 = 1 }) (ix d))
-claim_enabled rows c d some e f = let (low, wanted) = first_wanted c.docs d f in ((omega arith, some), low, wanted, none_held c.docs e (record { 0 = 1 }))
+claim_enabled rows c d some e f = let (low, wanted) = first_wanted c.docs d f in (((omega arith, some), low, wanted, none_held c.docs e (record { 0 = 1 })), tt)

@@ -1,12 +1,13 @@
 -- A core state, its events, and what holds between any two of them.
-use Rattle.std.specs.Prelude.{◌≡◌, ◌≢◌, ℕ, ◌+◌, ◌<◌, ◌≤◌, ◌⊎◌, List, [], ◌∷◌, length, slice_index_or, slice_set}
+use Rattle.std.specs.Prelude.{◌≡◌, ◌≢◌, ℕ, ◌+◌, ◌<◌, ◌≤◌, ◌↔◌, ◌⊎◌, List, [], ◌∷◌, length, slice_index_or, slice_set}
+use Rattle.std.specs.List.{Contains}
 use Rattle.vg_base.specs.declared.numbers.DocIx.{DocIx}
 use Rattle.vg_base.specs.declared.numbers.LoaderNo.{LoaderNo}
 use Rattle.build_core.specs.declared.event.DocState.{DocState}
 use Rattle.build_core.specs.declared.event.DocState.TheVariants.{Unseen, Wanted, Held, Done}
 use Rattle.build_core.specs.declared.event.Event.{Event}
 use Rattle.build_core.specs.declared.event.Event.TheVariants.{Want, Claim, Finish}
-use Rattle.build_core.specs.Rows.{Stands, Reached}
+use Rattle.build_core.specs.Rows.{Reached, ix}
 
 pub record Core : Type 0 where
   pub docs : List DocState
@@ -16,14 +17,24 @@ pub record Core : Type 0 where
 abbrev pub at : List DocState → ℕ → DocState
 at docs d = slice_index_or docs d Unseen
 
+-- some loader has read the document
+abbrev pub IsDone : List DocState → ℕ → Type 0
+IsDone docs d = (k : LoaderNo) × (at docs d ≡ Done k)
+
+-- none is wanted or held
 abbrev pub Finished : List DocState → Type 0
-Finished docs = (d : ℕ) → (at docs d ≡ Unseen) ⊎ ((k : LoaderNo) × (at docs d ≡ Done k))
+Finished docs = (d : ℕ) → (at docs d ≡ Unseen) ⊎ IsDone docs d
 
 pub record Sound (imp : ℕ → ℕ → Type 0) (entries : List DocIx) (docs : List DocState) : Type 0 where
   pub holds_one : (k : LoaderNo) (d e : ℕ) → at docs d ≡ Held k → at docs e ≡ Held k → d ≡ e
   pub reached : (d : ℕ) → at docs d ≢ Unseen → Reached imp entries d
-  pub entries_seen : (d : ℕ) → Stands entries d → at docs d ≢ Unseen
+  pub entries_seen : (d : ℕ) → Contains entries (ix d) → at docs d ≢ Unseen
   pub imports_seen : (k : LoaderNo) (d e : ℕ) → at docs d ≡ Done k → imp d e → at docs e ≢ Unseen
+
+-- what was sound still is, whichever the entries are
+abbrev pub KeepsSound : (ℕ → ℕ → Type 0) → List DocState → List DocState → Type 0
+KeepsSound imp before now =
+    (entries : List DocIx) → Sound imp entries before → Sound imp entries now
 
 -- the loader holds a document that imports y
 abbrev pub HoldsImporter : (ℕ → ℕ → Type 0) → List DocState → LoaderNo → ℕ → Type 0
@@ -35,10 +46,24 @@ HoldsNone docs k = (d : ℕ) → at docs d ≢ Held k
 abbrev pub IsLoader : ℕ → LoaderNo → Type 0
 IsLoader loaders k = (1 ≤ k.0) × (k.0 ≤ loaders)
 
+-- what the state itself asks of an event, whatever the imports are
+abbrev pub AllowedByState : Core → Event → Type 0
+AllowedByState c (Want k d) =
+    IsLoader c.loaders k × (d.0 < length c.docs) × (at c.docs d.0 ≡ Unseen)
+AllowedByState c (Claim k d) =
+    IsLoader c.loaders k × (d.0 < length c.docs) × (at c.docs d.0 ≡ Wanted) × HoldsNone c.docs k
+AllowedByState c (Finish k d) =
+    IsLoader c.loaders k × (d.0 < length c.docs) × (at c.docs d.0 ≡ Held k)
+
+-- what the imports ask of it
+abbrev pub AllowedByImports : (ℕ → ℕ → Type 0) → Core → Event → Type 0
+AllowedByImports imp c (Want k d) = HoldsImporter imp c.docs k d.0
+AllowedByImports imp c (Claim k d) = Unit {0}
+AllowedByImports imp c (Finish k d) = (y : ℕ) → imp d.0 y → at c.docs y ≢ Unseen
+
+-- the event may come
 abbrev pub Enabled : (ℕ → ℕ → Type 0) → Core → Event → Type 0
-Enabled imp c (Want k d) = IsLoader c.loaders k × (d.0 < length c.docs) × (at c.docs d.0 ≡ Unseen) × HoldsImporter imp c.docs k d.0
-Enabled imp c (Claim k d) = IsLoader c.loaders k × (d.0 < length c.docs) × (at c.docs d.0 ≡ Wanted) × HoldsNone c.docs k
-Enabled imp c (Finish k d) = IsLoader c.loaders k × (d.0 < length c.docs) × (at c.docs d.0 ≡ Held k) × ((y : ℕ) → imp d.0 y → at c.docs y ≢ Unseen)
+Enabled imp c e = AllowedByState c e × AllowedByImports imp c e
 
 abbrev pub moved : List DocState → Event → List DocState
 moved docs (Want k d) = slice_set docs d.0 Wanted
@@ -63,8 +88,15 @@ spent (s ∷ ss) = rank s + spent ss
 -- The opening state of so many documents: the entries are wanted, and all else is unseen.
 pub record Opening (size : ℕ) (entries : List DocIx) (docs : List DocState) : Type 0 where
   pub sized : length docs ≡ size
-  pub entries_wanted : (d : ℕ) → Stands entries d → at docs d ≡ Wanted
-  pub others_unseen : (d : ℕ) → (at docs d ≡ Unseen) ⊎ ((at docs d ≡ Wanted) × Stands entries d)
+  pub entries_wanted : (d : ℕ) → Contains entries (ix d) → at docs d ≡ Wanted
+  pub others_unseen : (d : ℕ) → (at docs d ≡ Unseen) ⊎ ((at docs d ≡ Wanted) × Contains entries (ix d))
+
+-- one that is held or done is so by a loader that is there
+abbrev pub IsByLoader : ℕ → DocState → Type 0
+IsByLoader loaders Unseen = Unit {0}
+IsByLoader loaders Wanted = Unit {0}
+IsByLoader loaders (Held k) = IsLoader loaders k
+IsByLoader loaders (Done k) = IsLoader loaders k
 
 -- What every state keeps: at most 64 documents, each that is held or done so by a loader that is there.
 pub record IsStanding (loaders : ℕ) (docs : List DocState) : Type 0 where
@@ -88,16 +120,13 @@ claims (Claim k d ∷ es) = d.0 ∷ claims es
 claims (Want k d ∷ es) = claims es
 claims (Finish k d ∷ es) = claims es
 
--- x isn't among these
-abbrev pub IsNew : ℕ → List ℕ → Type 0
-IsNew x [] = Unit {0}
-IsNew x (y ∷ ys) = (y ≢ x) × IsNew x ys
-
--- each stands once
-abbrev pub AreDistinct : List ℕ → Type 0
-AreDistinct [] = Unit {0}
-AreDistinct (x ∷ xs) = IsNew x xs × AreDistinct xs
+-- a run of so many events leads from the one state to the other
+pub record RunsTo (imp : ℕ → ℕ → Type 0) (before : Core) (count : ℕ) (now : Core) : Type 0 where
+  pub events : List Event
+  pub counted : length events ≡ count
+  pub ran : IsRun imp before events
+  pub moved : now ≡ after_all before events
 
 -- the documents that are done are the closure
 abbrev pub DoneIsClosure : (ℕ → ℕ → Type 0) → List DocIx → List DocState → Type 0
-DoneIsClosure imp entries docs = (d : ℕ) → (Reached imp entries d → (k : LoaderNo) × (at docs d ≡ Done k)) × (((k : LoaderNo) × (at docs d ≡ Done k)) → Reached imp entries d)
+DoneIsClosure imp entries docs = (d : ℕ) → IsDone docs d ↔ Reached imp entries d

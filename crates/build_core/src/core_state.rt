@@ -1,12 +1,14 @@
 //! The states of all documents, and the events that move them.
-ghost use Rattle.std.specs.Prelude.{◌≡◌, ◌≢◌, ℕ, ◌+◌, ◌*◌, ◌<◌, ◌≤◌, ◌↔◌, List, length, take, slice_index_or, IfOk, IsTrue};
+ghost use Rattle.std.specs.Prelude.{◌≡◌, ◌≢◌, ℕ, ◌+◌, ◌*◌, ◌<◌, ◌≤◌, ◌↔◌, List, length, take, slice_index_or, nat_eq, All, IfOk, IsTrue};
+ghost use Rattle.std.specs.Bool.{OnFalse, OnTrue};
+ghost use Rattle.std.specs.List.{Contains, IsDistinct};
 ghost use Rattle.vg_base.specs.declared.numbers.DocIx.{DocIx};
 ghost use Rattle.vg_base.specs.declared.numbers.LoaderNo.{LoaderNo};
 ghost use Rattle.build_core.specs.declared.event.DocState.TheVariants.{Unseen, Held};
 ghost use Rattle.build_core.specs.declared.event.Event.{Event};
-ghost use Rattle.build_core.specs.Rows.{ByRows, Stands};
+ghost use Rattle.build_core.specs.Rows.{ByRows};
 ghost use Rattle.build_core.specs.Next.{is_unseen_in};
-ghost use Rattle.build_core.specs.Core.{at, after, after_all, claims, AreDistinct, DoneIsClosure, Enabled, Finished, HoldsImporter, HoldsNone, IsLoader, IsRun, Opening, Sound};
+ghost use Rattle.build_core.specs.Core.{at, after, after_all, claims, AllowedByImports, AllowedByState, DoneIsClosure, Enabled, Finished, HoldsImporter, HoldsNone, IsByLoader, IsLoader, IsRun, IsStanding, KeepsSound, Opening, Sound};
 
 use crate::event::{DocState, Event};
 use crate::imports::Imports;
@@ -41,13 +43,29 @@ impl CoreState {
         entries: &[DocIx],
         loaders: u32,
     ) -> Result<CoreState, Memory>
-        requires { (d : ℕ) → Stands entries.now d → d < length imports.now }
+        requires { All (λ d. d.0 < length imports.now) entries.now }
         ensures opening { IfOk result (λ s. Opening (length imports.now) entries.now s.docs) }
         ensures loaders { IfOk result (λ s. s.loaders ≡ loaders) }
         ensures sound { IfOk result (λ s. Sound (ByRows imports.now) entries.now s.docs) }
     {
         let docs = opening(alloc, imports.len(), entries)?;
         Ok(CoreState { docs, loaders })
+    }
+
+    /// A state made from those of its documents, as whoever kept them elsewhere hands them over. Takes no memory.
+    pub fn of(docs: Vec<DocState>, loaders: u32) -> CoreState
+        requires { IsStanding loaders docs.items }
+        ensures docs { result.docs ≡ docs.items }
+        ensures loaders { result.loaders ≡ loaders }
+    {
+        CoreState { docs, loaders }
+    }
+
+    /// Whether these are at most 64 documents, each that is held or done so by a loader that is there.
+    pub fn is_standing(docs: &[DocState], loaders: u32) -> bool
+        ensures { IsTrue result ↔ IsStanding loaders docs.now }
+    {
+        docs.len() <= 64 && all_by_loaders(docs, loaders)
     }
 
     /// The state of a document.
@@ -65,21 +83,46 @@ impl CoreState {
         self.docs.len()
     }
 
+    /// How many loaders there are.
+    pub fn loaders(&self) -> u32
+        ensures { result ≡ self.now.loaders }
+    {
+        self.loaders
+    }
+
     /// Whether the event may come now. It may not where its loader or its document isn't there.
     pub fn enabled(&self, imports: &Imports, event: &Event) -> bool
         requires { length self.now.docs ≡ length imports.now }
         ensures { IsTrue result ↔ Enabled (ByRows imports.now) self.now event.now }
     {
+        self.allows(event) && self.imports_allow(imports, event)
+    }
+
+    /// Whether the state itself allows the event, whatever the imports are: half of what `enabled` asks.
+    pub fn allows(&self, event: &Event) -> bool
+        ensures { IsTrue result ↔ AllowedByState self.now event.now }
+    {
         match event {
             Event::Want { loader, doc } => self.is_loader(*loader)
-                && self.is_at(*doc, DocState::Unseen)
-                && self.holds_importer(imports, *loader, *doc),
+                && self.is_at(*doc, DocState::Unseen),
             Event::Claim { loader, doc } => self.is_loader(*loader)
                 && self.is_at(*doc, DocState::Wanted)
                 && self.holds_none(*loader),
             Event::Finish { loader, doc } => self.is_loader(*loader)
-                && self.is_at(*doc, DocState::Held(*loader))
-                && self.imports_seen(imports, *doc),
+                && self.is_at(*doc, DocState::Held(*loader)),
+        }
+    }
+
+    /// The other half, of an event that the state allows.
+    fn imports_allow(&self, imports: &Imports, event: &Event) -> bool
+        requires sized { length self.now.docs ≡ length imports.now }
+        requires allowed { AllowedByState self.now event.now }
+        ensures { IsTrue result ↔ AllowedByImports (ByRows imports.now) self.now event.now }
+    {
+        match event {
+            Event::Want { loader, doc } => self.holds_importer(imports, *loader, *doc),
+            Event::Claim { .. } => true,
+            Event::Finish { loader: _, doc } => self.imports_seen(imports, *doc),
         }
     }
 
@@ -87,7 +130,32 @@ impl CoreState {
     pub fn apply(&mut self, imports: &Imports, event: Event)
         requires { Enabled (ByRows imports.now) self.old event }
         ensures moved { self.new ≡ after self.old event }
-        ensures sound { (entries : List DocIx) → Sound (ByRows imports.now) entries self.old.docs → Sound (ByRows imports.now) entries self.new.docs }
+        ensures sized { length self.new.docs ≡ length self.old.docs }
+        ensures sound { KeepsSound (ByRows imports.now) self.old.docs self.new.docs }
+    {
+        self.move_by(event);
+    }
+
+    /// Moves the state by the event where the state itself allows it, and says whether it did. What `apply` does,
+    /// for who has no imports at hand: that they allow the event has to be known by other means.
+    pub fn advance(&mut self, event: Event) -> bool
+        ensures answer { IsTrue result ↔ AllowedByState self.old event }
+        ensures moved { OnTrue result (self.new ≡ after self.old event) }
+        ensures refused { OnFalse result (self.new ≡ self.old) }
+        ensures sized { length self.new.docs ≡ length self.old.docs }
+        ensures sound { (rows : List (List DocIx)) → Enabled (ByRows rows) self.old event
+            → KeepsSound (ByRows rows) self.old.docs self.new.docs }
+    {
+        let allowed = self.allows(&event);
+        if allowed {
+            self.move_by(event);
+        }
+        allowed
+    }
+
+    fn move_by(&mut self, event: Event)
+        requires { AllowedByState self.old event }
+        ensures { self.new ≡ after self.old event }
     {
         match event {
             Event::Want { loader: _, doc } => self.docs[doc.0 as usize] = DocState::Wanted,
@@ -102,12 +170,18 @@ impl CoreState {
         ensures ran { IsRun (ByRows imports.now) self.old (take result events.now) }
         ensures moved { self.new ≡ after_all self.old (take result events.now) }
         ensures within { result ≤ length events.now }
-        ensures stops { (d : Event) → result < length events.now → ¬ Enabled (ByRows imports.now) self.new (slice_index_or events.now result d) }
+        ensures stops { (d : Event) → result < length events.now
+            → ¬ Enabled (ByRows imports.now) self.new (slice_index_or events.now result d) }
         ensures few { result ≤ 3 * length imports.now }
-        ensures claimed_once { (entries : List DocIx) → Opening (length imports.now) entries self.old.docs → AreDistinct (claims (take result events.now)) }
-        ensures sound { (entries : List DocIx) → Opening (length imports.now) entries self.old.docs → Sound (ByRows imports.now) entries self.new.docs }
-        ensures closure { (entries : List DocIx) → Opening (length imports.now) entries self.old.docs → Finished self.new.docs
-            → DoneIsClosure (ByRows imports.now) entries self.new.docs }
+        ensures claimed_once { (entries : List DocIx)
+            → Opening (length imports.now) entries self.old.docs
+            → IsDistinct nat_eq (claims (take result events.now)) }
+        ensures sound { (entries : List DocIx)
+            → Opening (length imports.now) entries self.old.docs
+            → Sound (ByRows imports.now) entries self.new.docs }
+        ensures closure { (entries : List DocIx)
+            → Opening (length imports.now) entries self.old.docs
+            → Finished self.new.docs → DoneIsClosure (ByRows imports.now) entries self.new.docs }
     {
         self.apply_all(imports, events)
     }
@@ -117,7 +191,8 @@ impl CoreState {
         ensures ran { IsRun (ByRows imports.now) self.old (take result events.now) }
         ensures moved { self.new ≡ after_all self.old (take result events.now) }
         ensures within { result ≤ length events.now }
-        ensures stops { (d : Event) → result < length events.now → ¬ Enabled (ByRows imports.now) self.new (slice_index_or events.now result d) }
+        ensures stops { (d : Event) → result < length events.now
+            → ¬ Enabled (ByRows imports.now) self.new (slice_index_or events.now result d) }
         ensures few { result ≤ 3 * length imports.now }
     {
         let _documents = imports.len();
@@ -139,7 +214,8 @@ impl CoreState {
     }
 
     fn is_at(&self, doc: DocIx, state: DocState) -> bool
-        ensures { IsTrue result ↔ ((doc.0 < length self.now.docs) × (at self.now.docs doc.0 ≡ state)) }
+        ensures { IsTrue result
+            ↔ ((doc.0 < length self.now.docs) × (at self.now.docs doc.0 ≡ state)) }
     {
         let at = doc.0 as usize;
         at < self.docs.len() && self.docs[at] == state
@@ -161,7 +237,7 @@ impl CoreState {
         ensures { IsTrue result ↔ HoldsImporter (ByRows imports.now) self.now.docs loader doc.0 }
     {
         for (i, state) in self.docs.iter().enumerate() {
-            if *state == DocState::Held(loader) && stands(imports.row(DocIx(i as u32)), doc) {
+            if *state == DocState::Held(loader) && is_among(imports.row(DocIx(i as u32)), doc) {
                 return true;
             }
         }
@@ -181,10 +257,11 @@ impl CoreState {
     fn imports_seen(&self, imports: &Imports, doc: DocIx) -> bool
         requires sized { length self.now.docs ≡ length imports.now }
         requires there { doc.0 < length imports.now }
-        ensures { IsTrue result ↔ ((y : ℕ) → ByRows imports.now doc.0 y → at self.now.docs y ≢ Unseen) }
+        ensures { IsTrue result
+            ↔ ((y : ℕ) → ByRows imports.now doc.0 y → at self.now.docs y ≢ Unseen) }
     {
-        let row = imports.row(doc);
-        for import in row {
+        let imported = imports.row(doc);
+        for import in imported {
             if self.is_unseen(*import) {
                 return false;
             }
@@ -193,16 +270,37 @@ impl CoreState {
     }
 }
 
-/// Whether a document stands in a row.
-fn stands(row: &[DocIx], doc: DocIx) -> bool
-    ensures { IsTrue result ↔ Stands row.now doc.0 }
+/// Whether each that is held or done is so by a loader that is there.
+fn all_by_loaders(docs: &[DocState], loaders: u32) -> bool
+    ensures { IsTrue result ↔ ((d : ℕ) → IsByLoader loaders (at docs.now d)) }
 {
-    row.iter().any(|d| *d == doc)
+    for state in docs {
+        if !is_by_loader(*state, loaders) {
+            return false;
+        }
+    }
+    true
+}
+
+fn is_by_loader(state: DocState, loaders: u32) -> bool
+    ensures { IsTrue result ↔ IsByLoader loaders state }
+{
+    match state {
+        DocState::Unseen | DocState::Wanted => true,
+        DocState::Held(loader) | DocState::Done(loader) => 1 <= loader.0 && loader.0 <= loaders,
+    }
+}
+
+/// Whether a document is among these.
+fn is_among(docs: &[DocIx], doc: DocIx) -> bool
+    ensures { IsTrue result ↔ Contains docs.now doc }
+{
+    docs.contains(&doc)
 }
 
 /// The opening states.
 fn opening(alloc: Global, size: usize, entries: &[DocIx]) -> Result<Vec<DocState>, Memory>
-    requires { (d : ℕ) → Stands entries.now d → d < size }
+    requires { All (λ d. d.0 < size) entries.now }
     ensures { IfOk result (λ docs. Opening size entries.now docs.items) }
 {
     let mut docs = Vec::from_elem(alloc, DocState::Unseen, size)?;

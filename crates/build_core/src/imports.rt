@@ -1,7 +1,6 @@
 //! Which document imports which.
-ghost use Rattle.std.specs.Prelude.{◌≡◌, ℕ, ◌<◌, ◌≤◌, ◌↔◌, length, IsTrue, IsSome, IfSome, true};
-ghost use Rattle.std.specs.List.{list_all};
-ghost use Rattle.build_core.specs.Rows.{ByRows, Stands, IsClosed, row};
+ghost use Rattle.std.specs.Prelude.{◌≡◌, ℕ, ◌<◌, ◌≤◌, ◌↔◌, length, All, IsTrue, IsSome, IfSome};
+ghost use Rattle.build_core.specs.Rows.{ByRows, IsClosed, row};
 
 use sqlite_items::Items;
 use std::marker::Model;
@@ -27,14 +26,9 @@ impl Model for Imports {
 
 /// Whether each of these documents has a row.
 fn are_below(docs: &[DocIx], rows: usize) -> bool
-    ensures { IsTrue result ↔ ((y : ℕ) → Stands docs.now y → y < rows) }
+    ensures { IsTrue result ↔ All (λ d. d.0 < rows) docs.now }
 {
-    for doc in docs {
-        if doc.0 as usize >= rows {
-            return false;
-        }
-    }
-    true
+    docs.iter().all(|doc| (doc.0 as usize) < rows)
 }
 
 /// Whether each row names documents that have a row.

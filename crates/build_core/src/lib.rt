@@ -15,4 +15,4 @@ mod tests;
 pub use core_state::CoreState;
 pub use event::{DocState, Event};
 pub use imports::Imports;
-pub use laws::every_run;
+pub use laws::{done_is_closure, every_run};

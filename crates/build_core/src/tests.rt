@@ -56,37 +56,69 @@ fn runs_of_a_cycle_of_two(rt: HostRuntime) -> Result<(), Fail> {
         loader: LoaderNo(2),
         doc: FIRST,
     };
-    assert!(rt; state.len() == 2);
     assert_eq!(rt; state.run(&imports, &[WAY[0], second]), 1);
     let mut anew = CoreState::open(alloc, &imports, &[FIRST], 2)?;
-    assert!(rt; anew.len() == 2);
     assert_eq!(rt; anew.run(&imports, &WAY), 5);
     Ok(())
 }
 
 #[test]
-fn the_schedule_ends_a_cycle(rt: HostRuntime) -> Result<(), Fail> {
+fn the_schedule_of_a_cycle_of_two(rt: HostRuntime) -> Result<(), Fail> {
+    let alloc = rt.alloc();
+    let imports = cycle(alloc, 2)?.expect(&rt, "closed");
+    assert!(rt; imports.len() == 2);
+    let mut state = CoreState::open(alloc, &imports, &[FIRST], 1)?;
+    for event in &WAY {
+        assert!(rt; state.len() == imports.len());
+        assert!(rt; state.next_step(&imports) == Some(*event));
+        assert!(rt; state.enabled(&imports, event));
+        state.apply(&imports, *event);
+    }
+    assert!(rt; state.len() == imports.len());
+    assert!(rt; state.next_step(&imports) == None);
+    Ok(())
+}
+
+#[test]
+fn one_loader_comes_to_the_end(rt: HostRuntime) -> Result<(), Fail> {
     let alloc = rt.alloc();
     for (size, events) in [(2u32, 5u32), (64, 191)] {
         let imports = cycle(alloc, size)?.expect(&rt, "closed");
         assert!(rt; 0 < imports.len());
         let mut state = CoreState::open(alloc, &imports, &[FIRST], 1)?;
-        let mut count = 0u32;
-        for _ in 0..200 {
-            assert!(rt; state.len() == imports.len());
-            let Some(event) = state.next_step(&imports) else {
-                break;
-            };
-            if size == 2 && (count as usize) < WAY.len() {
-                assert!(rt; event == WAY[count as usize], "event {count}");
-            }
-            assert!(rt; state.enabled(&imports, &event));
-            state.apply(&imports, event);
-            count = count.saturating_add(1);
-        }
-        assert_eq!(rt; count, events, "a cycle of {size}");
-        assert!(rt; state.len() == imports.len());
+        assert_eq!(rt; state.run_to_end(&imports), events, "a cycle of {size}");
         assert!(rt; state.state(FIRST) == DocState::Done(ONE));
     }
+    Ok(())
+}
+
+// As states come from elsewhere: the first document was read by loader 2, and its import is wanted.
+#[test]
+fn states_that_are_handed_over(rt: HostRuntime) -> Result<(), Fail> {
+    let alloc = rt.alloc();
+    let imports = cycle(alloc, 3)?.expect(&rt, "closed");
+    let docs = [
+        DocState::Done(LoaderNo(2)),
+        DocState::Wanted,
+        DocState::Unseen,
+    ]
+    .to_vec(alloc)?;
+    assert!(rt; !CoreState::is_standing(&docs, 1));
+    assert!(rt; CoreState::is_standing(&docs, 2));
+    let mut state = CoreState::of(docs, 2);
+    let claim = Event::Claim {
+        loader: ONE,
+        doc: SECOND,
+    };
+    let finish = Event::Finish {
+        loader: ONE,
+        doc: SECOND,
+    };
+    assert!(rt; !state.advance(finish));
+    assert!(rt; state.advance(claim));
+    assert!(rt; state.len() == 3 && imports.len() == 3);
+    assert_eq!(rt; state.run_to_end(&imports), 4);
+    assert!(rt; state.state(FIRST) == DocState::Done(LoaderNo(2)));
+    assert!(rt; state.state(SECOND) == DocState::Done(ONE));
     Ok(())
 }

@@ -1,78 +1,97 @@
--- The pairs of a row of notes are what the notes know.
-use Rattle.std.proofs.Common.{◌≡◌, inl, inr, ⊎_elim, ◌↔◌, ℕ, zero, suc, ◌+◌, ◌-◌, ◌<◌, ◌≤◌, List, [], ◌∷◌, ◌++◌, length, sym, ◌∙◌, subst, ap, arith, lt_of_not-le, Option, Some, None}
-use Rattle.std.specs.Prelude.{slice_index_or, slice_set}
+-- The pairs of a row are what stands in it: from a place to its pair (`known_pair`) and back (`pair_known`). Each fact of
+-- rows is then one of their pairs (`keeps_pairs`, `agree_pairs`, `bound_pairs`, `each`).
+use Rattle.std.proofs.Common.{◌≡◌, ◌↔◌, ℕ, zero, suc, ◌+◌, ◌-◌, ◌<◌, ◌≤◌, List, [], ◌∷◌, ◌++◌, length, sym, ◌∙◌, subst, ap, arith, lt_of_not-le, Option, Some, None}
+use Rattle.std.specs.Prelude.{slice_index_or, slice_set, All}
+use Rattle.std.specs.List.{AllByRecursion, Contains}
+use Rattle.std.specs.List.Sorted.{IsStrictlyIncreasing, IsStrictlySortedBy}
+use Rattle.std.specs.Map.{keys_of}
+use Rattle.std.specs.Ordering.{nat_cmp}
+use Rattle.std.specs.Cmp.{nat_cmp_is}
+use Rattle.std.specs.declared.cmp.Ordering.TheVariants.{Less}
+use Rattle.std.proofs.lemmas.Cmp.{nat_cmp_total, eq_by_cmp_equiv}
 use Rattle.std.proofs.lemmas.List.{get_or-set_same, get_or-set_other}
+use Rattle.std.proofs.lemmas.List.Elements.{All-contains, All-contains_itself, All-map, All-weaker, Contains-append_right, recursion_from_All}
+use Rattle.std.proofs.lemmas.Map.Keys.{IsDistinct-from_sorted, IsStrictlyIncreasing-from_sorted, sorted_from_strictly_increasing}
+use Rattle.std.proofs.lemmas.Map.Views.{lookup-from_Contains}
 use mathlib.Core.Logic.{dite}
 use native.Mathlib.Decide.{ℕ_discrete, dec_le}
 use Rattle.once_cell.specs.Once.{Agrees}
-use Rattle.version_shelf.specs.Known.{Has, Keeps, OneValue, IsRising, pair_of, pairs}
+use Rattle.version_shelf.specs.Known.{Keeps, OneValue, pair_of, pairs}
 
 module _ {X : Type 0} where
-  has_back : (ps qs : List (ℕ × X)) (n : ℕ) (x : X) → Has qs n x → Has (ps ++ qs) n x
-  has_back [] qs n x h = h
-  has_back (p ∷ ps) qs n x h = inr (has_back ps qs n x h)
-
-  -- what the note at k knows is a pair
-  pub has_known : (n : ℕ) (os : List (Option X)) (k : ℕ) (x : X) → slice_index_or os k None ≡ Some x → Has (pairs n os) (n + k) x
-  has_known n [] k x e = cc
-  has_known n (o ∷ os) zero x e =
+  -- what stands at a place is a pair
+  pub known_pair : (n : ℕ) (os : List (Option X)) (k : ℕ) (x : X) → slice_index_or os k None ≡ Some x → Contains (pairs n os) (n + k, x)
+  known_pair n [] k x e = cc
+  known_pair n (o ∷ os) zero x e =
       let at : n ≡ n + 0 = omega arith in
-      subst (λ (p : Option X). Has (pair_of n p ++ pairs (n + 1) os) (n + 0) x) (sym e) (inl (ap (λ (i : ℕ). (i, x)) at))
-  has_known n (o ∷ os) (suc k) x e =
+      subst (λ (p : Option X). Contains (pair_of n p ++ pairs (n + 1) os) (n + 0, x)) (sym e) (0, omega arith, ap (λ (i : ℕ). (i, x)) at)
+  known_pair n (o ∷ os) (suc k) x e =
       let at : n + 1 + k ≡ n + suc k = omega arith in
-      has_back (pair_of n o) (pairs (n + 1) os) (n + suc k) x (subst (λ (i : ℕ). Has (pairs (n + 1) os) i x) at (has_known (n + 1) os k x e))
+      Contains-append_right (pair_of n o) (pairs (n + 1) os) (n + suc k, x) (subst (λ (i : ℕ). Contains (pairs (n + 1) os) (i, x)) at (known_pair (n + 1) os k x e))
 
-  -- a pair is what the note at its number knows
-  pub known_of : (n : ℕ) (os : List (Option X)) (m : ℕ) (x : X) → Has (pairs n os) m x → (k : ℕ) × (m ≡ n + k) × (slice_index_or os k None ≡ Some x)
-  known_of n [] m x h = absurd h
-  known_of n (None ∷ os) m x h =
-      let r = known_of (n + 1) os m x h in
+  -- a pair is what stands at its number's place
+  pub pair_known : (n : ℕ) (os : List (Option X)) (m : ℕ) (x : X) → Contains (pairs n os) (m, x) → (k : ℕ) × (m ≡ n + k) × (slice_index_or os k None ≡ Some x)
+  pair_known n [] m x (i, low, e) = absurd (omega arith)
+  pair_known n (None ∷ os) m x h =
+      let r = pair_known (n + 1) os m x h in
       let at = r.1 in
       (suc r.0, omega arith, r.2)
-  known_of n (Some y ∷ os) m x h =
-      ⊎_elim
-      (λ e. let at : n ≡ m = ap (λ (p : ℕ × X). p.0) e in (0, omega arith, ap (λ (p : ℕ × X). Some p.1) e))
-      (λ t. let r = known_of (n + 1) os m x t in let at = r.1 in (suc r.0, omega arith, r.2))
-      h
+  pair_known n (Some y ∷ os) m x (zero, low, e) = let at : n ≡ m = ap (λ (p : ℕ × X). p.0) e in (0, omega arith, ap (λ (p : ℕ × X). Some p.1) e)
+  pair_known n (Some y ∷ os) m x (suc i, low, e) =
+      let r = pair_known (n + 1) os m x (i, omega arith, e) in
+      let at = r.1 in
+      (suc r.0, omega arith, r.2)
 
-  pub known_at : (n : ℕ) (os : List (Option X)) (k : ℕ) (x : X) → Has (pairs n os) (n + k) x → slice_index_or os k None ≡ Some x
-  known_at n os k x h =
-      let r = known_of n os (n + k) x h in
+  pub pair_at : (n : ℕ) (os : List (Option X)) (k : ℕ) (x : X) → Contains (pairs n os) (n + k, x) → slice_index_or os k None ≡ Some x
+  pair_at n os k x h =
+      let r = pair_known n os (n + k) x h in
       let at = r.1 in
       let same : r.0 ≡ k = omega arith in
       subst (λ (i : ℕ). slice_index_or os i None ≡ Some x) same r.2
 
-  pub least : (n : ℕ) (os : List (Option X)) (m : ℕ) (x : X) → Has (pairs n os) m x → n ≤ m
-  least n os m x h = let r = known_of n os m x h in let at = r.1 in omega arith
+  -- what holds of each pair, place by place
+  pub all_pairs : (n : ℕ) (os : List (Option X)) (P : ℕ → Type 0) → ((k : ℕ) (x : X) → slice_index_or os k None ≡ Some x → P (n + k)) → All (λ (p : ℕ × X). P p.0) (pairs n os)
+  all_pairs n os P each_place =
+      All-weaker (Contains (pairs n os)) (λ (p : ℕ × X). P p.0)
+      (λ p h. let r = pair_known n os p.0 p.1 h in subst P (sym r.1) (each_place r.0 p.1 r.2))
+      (pairs n os) (All-contains_itself (pairs n os))
 
-  pub rising : (n : ℕ) (os : List (Option X)) → IsRising (pairs n os)
-  rising n [] = tt
-  rising n (None ∷ os) = rising (n + 1) os
-  rising n (Some y ∷ os) = ((λ m x h. let l = least (n + 1) os m x h in omega arith), rising (n + 1) os)
+  pub least : (n : ℕ) (os : List (Option X)) → All (λ (p : ℕ × X). n ≤ p.0) (pairs n os)
+  least n os = all_pairs n os (λ m. n ≤ m) (λ k x e. omega arith)
 
-  pub once : (ps : List (ℕ × X)) (n : ℕ) (x y : X) → IsRising ps → Has ps n x → Has ps n y → x ≡ y
-  once [] n x y r h k = absurd h
-  once (p ∷ ps) n x y r h k =
-      ⊎_elim
-      (λ e.
-      ⊎_elim (λ f. ap (λ (q : ℕ × X). q.1) (sym e ∙ f))
-      (λ t. let l = r.0 n y t in let at : p.0 ≡ n = ap (λ (q : ℕ × X). q.0) e in absurd (omega arith)) k)
-      (λ s.
-      ⊎_elim (λ f. let l = r.0 n x s in let at : p.0 ≡ n = ap (λ (q : ℕ × X). q.0) f in absurd (omega arith))
-      (λ t. once ps n x y r.1 s t) k)
-      h
+  sorted : (n : ℕ) (os : List (Option X)) → IsStrictlySortedBy nat_cmp (keys_of (pairs n os))
+  unfolding IsStrictlySortedBy
+  sorted n [] = tt
+  sorted n (None ∷ os) = sorted (n + 1) os
+  sorted n (Some y ∷ os) = (
+    recursion_from_All (λ (m : ℕ). nat_cmp n m ≡ Less) (keys_of (pairs (n + 1) os))
+        (All-map (λ (m : ℕ). nat_cmp n m ≡ Less) (λ (p : ℕ × X). p.0) (pairs (n + 1) os)
+        (All-weaker (λ (p : ℕ × X). n + 1 ≤ p.0) (λ (p : ℕ × X). nat_cmp n p.0 ≡ Less) (λ p low. sym (nat_cmp_is n p.0 Less (omega arith))) (pairs (n + 1) os) (least (n + 1) os))),
+    sorted (n + 1) os,
+  )
+
+  pub rising : (n : ℕ) (os : List (Option X)) → IsStrictlyIncreasing (keys_of (pairs n os))
+  rising n os = IsStrictlyIncreasing-from_sorted (keys_of (pairs n os)) (sorted n os)
+
+  -- where the numbers rise, each has one value
+  pub once : (ps : List (ℕ × X)) (n : ℕ) (x y : X) → IsStrictlyIncreasing (keys_of ps) → Contains ps (n, x) → Contains ps (n, y) → x ≡ y
+  once ps n x y r h k =
+      let apart = IsDistinct-from_sorted nat_cmp (keys_of ps) (sorted_from_strictly_increasing (keys_of ps) r) in
+      let first = lookup-from_Contains (eq_by_cmp_equiv nat_cmp_total) n x ps apart h in
+      let second = lookup-from_Contains (eq_by_cmp_equiv nat_cmp_total) n y ps apart k in
+      cc
 
   -- facts that are kept keep their pairs
   pub keeps_pairs : (n : ℕ) (old new : List (Option X)) → ((k : ℕ) (x : X) → slice_index_or old k None ≡ Some x → slice_index_or new k None ≡ Some x) → Keeps (pairs n old) (pairs n new)
   keeps_pairs n old new keeps m x h =
-      let r = known_of n old m x h in
-      subst (λ (i : ℕ). Has (pairs n new) i x) (sym r.1) (has_known n new r.0 x (keeps r.0 x r.2))
+      let r = pair_known n old m x h in
+      subst (λ (i : ℕ). Contains (pairs n new) (i, x)) (sym r.1) (known_pair n new r.0 x (keeps r.0 x r.2))
 
   -- facts that agree have one value at each number
   pub agree_pairs : (n : ℕ) (fs gs : List (Option X)) → ((k : ℕ) (x y : X) → slice_index_or fs k None ≡ Some x → slice_index_or gs k None ≡ Some y → x ≡ y) → OneValue (pairs n fs) (pairs n gs)
   agree_pairs n fs gs agree m x y h t =
-      let r = known_of n fs m x h in
-      agree r.0 x y r.2 (known_at n gs r.0 y (subst (λ (i : ℕ). Has (pairs n gs) i y) r.1 t))
+      let r = pair_known n fs m x h in
+      agree r.0 x y r.2 (pair_at n gs r.0 y (subst (λ (i : ℕ). Contains (pairs n gs) (i, y)) r.1 t))
 
   -- the fact at a number's place, where the cell held what was known of it
   pub found_keeps : (old new : List (Option X)) (at : ℕ) (v : X) → new ≡ slice_set old at (Some v) → at < length old → Agrees (slice_index_or old at None) v
@@ -103,22 +122,22 @@ module _ {X : Type 0} where
   learnt_agrees mine theirs c learnt none k x y h t = let mine_y = learnt_all mine theirs c learnt none k y t in cc
 
   -- a bound of the places is one of the numbers
-  pub bound_pairs : (n : ℕ) (fs : List (Option X)) (c : ℕ) → ((k : ℕ) (x : X) → slice_index_or fs k None ≡ Some x → k ≤ c) → (m : ℕ) (x : X) → Has (pairs n fs) m x → m ≤ n + c
-  bound_pairs n fs c bound m x h =
-      let r = known_of n fs m x h in
-      let at = r.1 in
-      let le = bound r.0 x r.2 in
-      omega arith
+  pub bound_pairs : (n : ℕ) (fs : List (Option X)) (c : ℕ) → ((k : ℕ) (x : X) → slice_index_or fs k None ≡ Some x → k ≤ c) → All (λ (p : ℕ × X). p.0 ≤ n + c) (pairs n fs)
+  bound_pairs n fs c bound = all_pairs n fs (λ m. m ≤ n + c) (λ k x e. let le = bound k x e in omega arith)
 
   -- facts up to c and no others: the numbers of the pairs
   pub each : (n : ℕ) (fs : List (Option X)) (c : ℕ) → ((k : ℕ) → k ≤ c → (x : X) × (slice_index_or fs k None ≡ Some x)) → ((k : ℕ) → c < k → slice_index_or fs k None ≡ None)
-      → (m : ℕ) → ((x : X) × Has (pairs n fs) m x) ↔ ((n ≤ m) × (m ≤ n + c))
+      → (m : ℕ) → ((x : X) × Contains (pairs n fs) (m, x)) ↔ ((n ≤ m) × (m ≤ n + c))
   each n fs c full none m = (
-    (λ h. (least n fs m h.0 h.1, bound_pairs n fs c (not_past fs c none) m h.0 h.1)),
+    (λ h.
+        let r = pair_known n fs m h.0 h.1 in
+        let at = r.1 in
+        let le = not_past fs c none r.0 h.0 r.2 in
+        (omega arith, omega arith)),
     (λ b.
         let le = b.0 in
         let top = b.1 in
         let at : n + (m - n) ≡ m = omega arith in
         let f = full (m - n) (omega arith) in
-        (f.0, subst (λ (i : ℕ). Has (pairs n fs) i f.0) at (has_known n fs (m - n) f.0 f.1))),
+        (f.0, subst (λ (i : ℕ). Contains (pairs n fs) (i, f.0)) at (known_pair n fs (m - n) f.0 f.1))),
   )

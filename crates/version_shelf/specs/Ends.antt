@@ -1,5 +1,6 @@
 -- What the publisher and the readers of a shelf are, and what they know.
 use Rattle.std.specs.Prelude.{◌≡◌, ℕ, ◌+◌, ◌-◌, ◌^◌, ◌<◌, ◌≤◌, true, false, List, [], map, length, slice_index_or, None}
+use Rattle.std.specs.List.{Contains}
 use Rattle.std.specs.declared.sync.Arc.{Arc}
 use Rattle.std.specs.declared.alloc.Global.{Global}
 use Rattle.once_cell.specs.Once.{cell_name}
@@ -8,7 +9,7 @@ use Rattle.version_shelf.specs.declared.publisher.Publisher.{Publisher}
 use Rattle.version_shelf.specs.declared.reader.Reader.{Reader}
 use Rattle.version_shelf.specs.declared.shelf.PublishRefused.{PublishRefused}
 use Rattle.version_shelf.specs.declared.shelf.PublishRefused.TheVariants.{Memory}
-use Rattle.version_shelf.specs.Known.{facts, KnowsAt, pairs}
+use Rattle.version_shelf.specs.Known.{facts, Keeps, KnowsAt, known}
 
 module _ {V : Type 0} where
   -- the number of the value on which the shelf was opened
@@ -28,8 +29,8 @@ module _ {V : Type 0} where
   last_number p = p.number + p.count
 
   -- the pairs of number and value that it knows
-  abbrev pub publisher_known : Publisher V → List (ℕ × Arc V Global)
-  publisher_known p = pairs p.number (facts p.notes.items)
+  abbrev pub publisher_known : Publisher V → List (ℕ × V)
+  publisher_known p = known p.number p.notes.items
 
   -- the number of the newest value that the reader was answered, or met
   abbrev pub reached : Reader V → ℕ
@@ -39,8 +40,8 @@ module _ {V : Type 0} where
   abbrev pub shown : Reader V → ℕ
   shown r = r.number + r.seat.me.0.count
 
-  abbrev pub reader_known : Reader V → List (ℕ × Arc V Global)
-  reader_known r = pairs r.number (facts r.notes.items)
+  abbrev pub reader_known : Reader V → List (ℕ × V)
+  reader_known r = known r.number r.notes.items
 
   -- p is the publisher of the shelf: its view has the count, and its notes know each cell up to it, and no other
   pub record IsPublisherOf (shelf : Shelf V) (p : Publisher V) : Type 0 where
@@ -69,6 +70,16 @@ module _ {V : Type 0} where
     pub met : r.last ≤ r.seat.me.0.count
     pub seen : (x : Arc V Global) × KnowsAt r.notes.items r.last x
     pub bound : (k : ℕ) (x : Arc V Global) → KnowsAt r.notes.items k x → k ≤ r.seat.me.0.count
+
+  -- The reader, as it was before and is after, answered this number with this value: it knows the pair from then on and
+  -- forgot none, and the number is neither below what it had reached nor past the count that it was shown.
+  pub record Answered (before after : Reader V) (number : ℕ) (value : V) : Type 0 where
+    pub keeps : Keeps (reader_known before) (reader_known after)
+    pub pair : Contains (reader_known after) (number, value)
+    pub last : number ≡ reached after
+    pub later : reached before ≤ number
+    pub bound : number ≤ shown after
+    pub counted : shown before ≤ shown after
 
   -- the value that comes back
   abbrev pub given_back : PublishRefused V → Arc V Global

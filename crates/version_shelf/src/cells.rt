@@ -12,7 +12,9 @@ pub(crate) fn empty_cells<V: Drop>(
     alloc: Global,
     count: usize,
 ) -> Result<(Vec<OnceBox<Arc<V>>>, Vec<Note<Arc<V>>>), AllocError>
-    ensures { IfOk result (λ r. (vec_len r.0 ≡ count) × (map (λ m. m.cell) r.1.items ≡ map cell_name r.0.items) × (facts r.1.items ≡ replicate count None)) }
+    ensures { IfOk result (λ r. (vec_len r.0 ≡ count)
+        × (map (λ m. m.cell) r.1.items ≡ map cell_name r.0.items)
+        × (facts r.1.items ≡ replicate count None)) }
 {
     let mut cells = Vec::new(alloc);
     let mut notes = Vec::new(alloc);
@@ -33,7 +35,8 @@ fn fill<V: Drop>(
     value: Arc<V>,
 ) -> Result<Note<Arc<V>>, Arc<V>>
     requires { note.cell ≡ cell_name cell.now }
-    ensures { MatchResult result (λ n. (n.cell ≡ note.cell) × (n.known ≡ Some value)) (λ v. v ≡ value) }
+    ensures { MatchResult result
+        (λ n. (n.cell ≡ note.cell) × (n.known ≡ Some value)) (λ v. v ≡ value) }
 {
     let boxed = match Box::new(alloc, value) {
         Ok(boxed) => boxed,
@@ -53,9 +56,12 @@ pub(crate) fn fill_at<V: Drop>(
     k: usize,
     value: Arc<V>,
 ) -> Result<(), Arc<V>>
-    requires { (k < length cells.now.items) × (map (λ m. m.cell) notes.old.items ≡ map cell_name cells.now.items) }
+    requires { (k < length cells.now.items)
+        × (map (λ m. m.cell) notes.old.items ≡ map cell_name cells.now.items) }
     ensures names { map (λ m. m.cell) notes.new.items ≡ map (λ m. m.cell) notes.old.items }
-    ensures known { MatchResult result (λ _. facts notes.new.items ≡ slice_set (facts notes.old.items) k (Some value)) (λ v. (v ≡ value) × (facts notes.new.items ≡ facts notes.old.items)) }
+    ensures known { MatchResult result
+        (λ _. facts notes.new.items ≡ slice_set (facts notes.old.items) k (Some value))
+        (λ v. (v ≡ value) × (facts notes.new.items ≡ facts notes.old.items)) }
 {
     let note = notes[k].again();
     match fill(alloc, &cells[k], note, value) {
@@ -69,9 +75,14 @@ pub(crate) fn fill_at<V: Drop>(
 
 /// What the cell at k holds, which the note there knows from then on.
 fn look<'a, X>(cells: &'a Vec<OnceBox<X>>, notes: &mut Vec<Note<X>>, k: usize) -> Option<&'a X>
-    requires { (k < length cells.now.items) × (map (λ m. m.cell) notes.old.items ≡ map cell_name cells.now.items) }
+    requires { (k < length cells.now.items)
+        × (map (λ m. m.cell) notes.old.items ≡ map cell_name cells.now.items) }
     ensures names { map (λ m. m.cell) notes.new.items ≡ map (λ m. m.cell) notes.old.items }
-    ensures value { MatchOption result ((slice_index_or (facts notes.old.items) k None ≡ None) × (facts notes.new.items ≡ facts notes.old.items)) (λ r. Agrees (slice_index_or (facts notes.old.items) k None) r.now × (facts notes.new.items ≡ slice_set (facts notes.old.items) k (Some r.now))) }
+    ensures value { MatchOption result
+        ((slice_index_or (facts notes.old.items) k None ≡ None)
+        × (facts notes.new.items ≡ facts notes.old.items))
+        (λ r. Agrees (slice_index_or (facts notes.old.items) k None) r.now
+        × (facts notes.new.items ≡ slice_set (facts notes.old.items) k (Some r.now))) }
 {
     cells[k].get_as(&mut notes[k])
 }
@@ -88,7 +99,8 @@ pub(crate) fn newest<'a, X>(
     requires known { (x : X) × KnowsAt notes.old.items last x }
     ensures places { (last ≤ result.0) × (result.0 ≤ top) }
     ensures names { map (λ m. m.cell) notes.new.items ≡ map (λ m. m.cell) notes.old.items }
-    ensures known { facts notes.new.items ≡ slice_set (facts notes.old.items) result.0 (Some result.1.now) }
+    ensures known { facts notes.new.items
+        ≡ slice_set (facts notes.old.items) result.0 (Some result.1.now) }
     ensures agrees { Agrees (slice_index_or (facts notes.old.items) result.0 None) result.1.now }
 {
     let mut at = top;

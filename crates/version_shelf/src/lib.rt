@@ -9,9 +9,13 @@ mod publisher;
 mod reader;
 mod shelf;
 mod steps;
+mod threads;
 mod view;
 
-pub use laws::{known_is_what_notes_know, known_rises, numbers_stand_once, publisher_knows_each};
+pub use laws::{
+    answers_agree, known_is_what_notes_know, known_rises, numbers_stand_once, publisher_knows_each,
+    reader_is_within,
+};
 pub use publisher::Publisher;
 pub use reader::Reader;
 pub use shelf::{PublishRefused, Shelf};

@@ -37,8 +37,12 @@ pub(crate) fn learn_all<X>(mine: &mut Vec<Note<X>>, theirs: &mut Vec<Note<X>>, c
     ensures same { theirs.new.items ≡ theirs.old.items }
     ensures names { map (λ m. m.cell) mine.new.items ≡ map (λ m. m.cell) mine.old.items }
     ensures keeps { KeepsFacts mine.old.items mine.new.items }
-    ensures learnt { (k : ℕ) → k < count → slice_index_or (facts mine.new.items) k None ≡ slice_index_or (facts theirs.old.items) k None }
-    ensures others { (k : ℕ) → count ≤ k → slice_index_or (facts mine.new.items) k None ≡ slice_index_or (facts mine.old.items) k None }
+    ensures learnt { (k : ℕ) → k < count
+        → slice_index_or (facts mine.new.items) k None
+        ≡ slice_index_or (facts theirs.old.items) k None }
+    ensures others { (k : ℕ) → count ≤ k
+        → slice_index_or (facts mine.new.items) k None
+        ≡ slice_index_or (facts mine.old.items) k None }
 {
     for k in 0..count {
         learn(&mut mine[k], &mut theirs[k]);

@@ -1,6 +1,5 @@
-ghost use Rattle.std.specs.Prelude.{◌≡◌, ℕ, ◌+◌, ◌<◌, ◌≤◌, ◌++◌, ◌∷◌, [], IfOk, IfErr, OnErr};
+ghost use Rattle.std.specs.Prelude.{◌≡◌, ◌+◌, ◌<◌, ◌≤◌, ◌++◌, ◌∷◌, [], All, IfOk, IfErr, OnErr};
 ghost use Rattle.version_shelf.specs.Ends.{IsPublisherOf, IsReaderOf, given_back, last_number, published, publisher_known, reached, reader_known, room};
-ghost use Rattle.version_shelf.specs.Known.{Has};
 
 use crate::cells::fill_at;
 use crate::notes::copies;
@@ -38,7 +37,8 @@ impl<V: Drop> Publisher<V> {
         ensures of { IsPublisherOf shelf.now self.new }
         ensures number { IfOk result (λ n. n.0 ≡ last_number self.old + 1) }
         ensures published { IfOk result (λ n. published self.new ≡ published self.old + 1) }
-        ensures known { IfOk result (λ n. publisher_known self.new ≡ publisher_known self.old ++ (n.0, value) ∷ []) }
+        ensures known { IfOk result (λ n.
+            publisher_known self.new ≡ publisher_known self.old ++ (n.0, value.value) ∷ []) }
         ensures back { IfErr result (λ e. given_back e ≡ value) }
         ensures unpublished { OnErr result (published self.new ≡ published self.old) }
         ensures unchanged { OnErr result (publisher_known self.new ≡ publisher_known self.old) }
@@ -81,7 +81,7 @@ impl<V: Drop> Publisher<V> {
         ensures of { IsPublisherOf shelf.now self.new }
         ensures published { published self.new ≡ published self.old }
         ensures known { publisher_known self.new ≡ publisher_known self.old }
-        ensures bound { (n : ℕ) (x : _) → Has (reader_known reader) n x → n ≤ last_number self.new }
+        ensures bound { All (λ p. p.0 ≤ last_number self.new) (reader_known reader) }
     {
         let Reader {
             number: _,

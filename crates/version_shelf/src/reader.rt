@@ -1,6 +1,6 @@
-ghost use Rattle.std.specs.Prelude.{◌≡◌, ℕ, ◌+◌, ◌<◌, ◌≤◌};
-ghost use Rattle.version_shelf.specs.Ends.{IsPublisherOf, IsReaderOf, last_number, published, publisher_known, reached, reader_known, shown};
-ghost use Rattle.version_shelf.specs.Known.{Has, Keeps, OneValue};
+ghost use Rattle.std.specs.Prelude.{◌≡◌, ◌≤◌};
+ghost use Rattle.version_shelf.specs.Ends.{Answered, IsPublisherOf, IsReaderOf, last_number, published, publisher_known, reached, reader_known, shown};
+ghost use Rattle.version_shelf.specs.Known.{Keeps, OneValue};
 
 use crate::cells::newest;
 use crate::notes::learn_all;
@@ -51,12 +51,7 @@ impl<V: Drop> Reader<V> {
     pub fn latest<'a>(&mut self, shelf: &'a Shelf<V>) -> (VersionNo, &'a Arc<V>)
         requires { IsReaderOf shelf.now self.old }
         ensures of { IsReaderOf shelf.now self.new }
-        ensures keeps { Keeps (reader_known self.old) (reader_known self.new) }
-        ensures pair { Has (reader_known self.new) result.0.0 result.1.now }
-        ensures number { result.0.0 ≡ reached self.new }
-        ensures later { reached self.old ≤ reached self.new }
-        ensures bound { reached self.new ≤ shown self.new }
-        ensures shown { shown self.old ≤ shown self.new }
+        ensures answered { Answered self.old self.new result.0.0 result.1.now.value }
     {
         let count = steps::load(&shelf.table.shared, &mut self.seat);
         let top = (count as usize).min(shelf.cells.len() - 1);

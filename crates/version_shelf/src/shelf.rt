@@ -39,7 +39,7 @@ impl<V: Drop> Shelf<V> {
         ensures number { IfOk result (λ r. base_number r.0 ≡ number.0) }
         ensures room { IfOk result (λ r. room r.0 ≡ cells) }
         ensures none { IfOk result (λ r. published r.1 ≡ 0) }
-        ensures known { IfOk result (λ r. publisher_known r.1 ≡ (number.0, base) ∷ []) }
+        ensures known { IfOk result (λ r. publisher_known r.1 ≡ (number.0, base.value) ∷ []) }
     {
         let VersionNo(number) = number;
         let (cells, mut notes) = empty_cells(alloc, cells as usize + 1)?;

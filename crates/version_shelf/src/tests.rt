@@ -1,7 +1,6 @@
 //! The worked row, and readers on threads beside a publisher.
-ghost use Rattle.std.specs.Prelude.{◌≡◌, ℕ, ◌+◌, ◌<◌, ◌≤◌, length, slice_index_or, IfOk};
+ghost use Rattle.std.specs.Prelude.{◌≡◌, ◌+◌, ◌<◌, ◌≤◌, All, IfOk};
 ghost use Rattle.version_shelf.specs.Ends.{IsPublisherOf, IsReaderOf, published, room};
-ghost use Rattle.version_shelf.specs.declared.tests.Lane.{Lane};
 
 use crate::{Publisher, Reader, Shelf};
 use std::alloc::Global;
@@ -10,16 +9,26 @@ use std::test::Fail;
 use std::thread::{Threads, for_each_mut, join_mut};
 use vg_base::{Memory, VersionNo};
 
-// The value is 100 more than its number.
-fn value_of(number: u64) -> u64 {
-    number.wrapping_add(100)
+// A version as a server has it, on the heap: here its number stands in each line.
+#[derive(Drop)]
+struct Edition {
+    lines: Vec<u64>,
+}
+
+fn edition_of(alloc: Global, number: u64) -> Result<Arc<Edition>, Memory> {
+    let lines = [number, number].to_vec(alloc)?;
+    Ok(Arc::new(alloc, Edition { lines })?)
+}
+
+fn is_edition(edition: &Edition, number: u64) -> bool {
+    edition.lines.len() == 2 && edition.lines.iter().all(|line| *line == number)
 }
 
 // Publishes the value of a number, and gives the number that it got.
 fn publish(
-    publisher: &mut Publisher<u64>,
+    publisher: &mut Publisher<Edition>,
     alloc: Global,
-    shelf: &Shelf<u64>,
+    shelf: &Shelf<Edition>,
     number: u64,
 ) -> Result<u64, Memory>
     requires of { IsPublisherOf shelf.now publisher.old }
@@ -27,7 +36,7 @@ fn publish(
     ensures of { IsPublisherOf shelf.now publisher.new }
     ensures count { published publisher.new ≤ published publisher.old + 1 }
 {
-    let value = Arc::new(alloc, value_of(number))?;
+    let value = edition_of(alloc, number)?;
     match publisher.publish(alloc, shelf, value) {
         Ok(VersionNo(n)) => Ok(n),
         Err(_) => Err(Memory),
@@ -37,16 +46,35 @@ fn publish(
 #[test]
 fn the_row_shelf(rt: HostRuntime) -> Result<(), Fail> {
     let alloc = rt.alloc();
-    let base = Arc::new(alloc, value_of(0))?;
+    let base = edition_of(alloc, 0)?;
     let (shelf, mut publisher) = Shelf::open(alloc, base, VersionNo(0), 2)?;
     assert_eq!(rt; publish(&mut publisher, alloc, &shelf, 1)?, 1);
     let mut reader = publisher.reader(alloc, &shelf)?;
     let (one, value) = reader.latest(&shelf);
-    assert_eq!(rt; (one.0, **value), (1, 101));
+    assert!(rt; one == VersionNo(1) && is_edition(value, 1));
     assert_eq!(rt; publish(&mut publisher, alloc, &shelf, 2)?, 2);
     reader.meet(&shelf, &mut publisher);
     let (two, value) = reader.latest(&shelf);
-    assert_eq!(rt; (two.0, **value), (2, 102));
+    assert!(rt; two == VersionNo(2) && is_edition(value, 2));
+    publisher.join(&shelf, reader);
+    Ok(())
+}
+
+// No contract says what a reader finds that it hasn't met: on one thread, all that was published.
+#[test]
+fn a_reader_finds_what_it_has_not_met(rt: HostRuntime) -> Result<(), Fail> {
+    let alloc = rt.alloc();
+    let base = edition_of(alloc, 7)?;
+    let (shelf, mut publisher) = Shelf::open(alloc, base, VersionNo(7), 2)?;
+    let mut reader = publisher.reader(alloc, &shelf)?;
+    let (base, value) = reader.latest(&shelf);
+    assert!(rt; base == VersionNo(7) && is_edition(value, 7));
+    assert_eq!(rt; publish(&mut publisher, alloc, &shelf, 8)?, 8);
+    let (one, value) = reader.latest(&shelf);
+    assert!(rt; one == VersionNo(8) && is_edition(value, 8));
+    assert_eq!(rt; publish(&mut publisher, alloc, &shelf, 9)?, 9);
+    let (two, value) = reader.latest(&shelf);
+    assert!(rt; two == VersionNo(9) && is_edition(value, 9));
     publisher.join(&shelf, reader);
     Ok(())
 }
@@ -54,15 +82,15 @@ fn the_row_shelf(rt: HostRuntime) -> Result<(), Fail> {
 // A reader on a thread of its own, the number of its last answer, and whether an answer was wrong.
 #[derive(Drop)]
 struct Lane {
-    reader: Reader<u64>,
+    reader: Reader<Edition>,
     last: u64,
     wrong: bool,
 }
 
 fn new_lane(
-    publisher: &mut Publisher<u64>,
+    publisher: &mut Publisher<Edition>,
     alloc: Global,
-    shelf: &Shelf<u64>,
+    shelf: &Shelf<Edition>,
 ) -> Result<Lane, Memory>
     requires { IsPublisherOf shelf.now publisher.old }
     ensures of { IsPublisherOf shelf.now publisher.new }
@@ -77,19 +105,19 @@ fn new_lane(
 }
 
 // Number and value agree, and no number is below the last.
-fn look(lane: &mut Lane, shelf: &Shelf<u64>)
+fn look(lane: &mut Lane, shelf: &Shelf<Edition>)
     requires { IsReaderOf shelf.now lane.old.reader }
     ensures { IsReaderOf shelf.now lane.new.reader }
 {
     let (VersionNo(n), value) = lane.reader.latest(shelf);
-    if **value != value_of(n) || n < lane.last {
+    if !is_edition(value, n) || n < lane.last {
         lane.wrong = true;
     }
     lane.last = n;
 }
 
 // Reads until the last number comes, or for many turns.
-fn look_on(lane: &mut Lane, shelf: &Shelf<u64>)
+fn look_on(lane: &mut Lane, shelf: &Shelf<Edition>)
     requires { IsReaderOf shelf.now lane.old.reader }
     ensures { IsReaderOf shelf.now lane.new.reader }
 {
@@ -101,7 +129,7 @@ fn look_on(lane: &mut Lane, shelf: &Shelf<u64>)
     }
 }
 
-fn publish_all(publisher: &mut Publisher<u64>, alloc: Global, shelf: &Shelf<u64>)
+fn publish_all(publisher: &mut Publisher<Edition>, alloc: Global, shelf: &Shelf<Edition>)
     requires of { IsPublisherOf shelf.now publisher.old }
     requires room { published publisher.old + 64 ≤ room shelf.now }
     ensures { IsPublisherOf shelf.now publisher.new }
@@ -116,32 +144,33 @@ fn publish_all(publisher: &mut Publisher<u64>, alloc: Global, shelf: &Shelf<u64>
 fn run<R: Threads + Sync>(
     rt: &R,
     alloc: Global,
-    publisher: &mut Publisher<u64>,
+    publisher: &mut Publisher<Edition>,
     lanes: &mut [Lane],
-    shelf: &Shelf<u64>,
+    shelf: &Shelf<Edition>,
 )
     requires of { IsPublisherOf shelf.now publisher.old }
     requires room { published publisher.old + 64 ≤ room shelf.now }
-    requires lanes { (i : ℕ) (d : Lane) → i < length lanes.old → IsReaderOf shelf.now (slice_index_or lanes.old i d).reader }
+    requires lanes { All (λ l. IsReaderOf shelf.now l.reader) lanes.old }
     ensures of { IsPublisherOf shelf.now publisher.new }
-    ensures lanes { (i : ℕ) (d : Lane) → i < length lanes.old → IsReaderOf shelf.now (slice_index_or lanes.new i d).reader }
+    ensures lanes { All (λ l. IsReaderOf shelf.now l.reader) lanes.new }
 {
     join_mut(
         rt,
         &mut ||
-            requires { IsPublisherOf shelf.now publisher.now × (published publisher.now + 64 ≤ room shelf.now) }
+            requires { IsPublisherOf shelf.now publisher.now
+                × (published publisher.now + 64 ≤ room shelf.now) }
             ensures { IsPublisherOf shelf.entry.now publisher.exit.now }
         { publish_all(publisher, alloc, shelf) },
         &mut ||
-            requires { (i : ℕ) (d : Lane) → i < length lanes.now → IsReaderOf shelf.now (slice_index_or lanes.now i d).reader }
-            ensures { (i : ℕ) (d : Lane) → i < length lanes.entry.now → IsReaderOf shelf.entry.now (slice_index_or lanes.exit.now i d).reader }
+            requires { All (λ l. IsReaderOf shelf.now l.reader) lanes.now }
+            ensures { All (λ l. IsReaderOf shelf.entry.now l.reader) lanes.exit.now }
         { look_each(rt, lanes, shelf) },
     );
 }
 
-fn look_each<R: Threads + Sync>(rt: &R, lanes: &mut [Lane], shelf: &Shelf<u64>)
-    requires { (i : ℕ) (d : Lane) → i < length lanes.old → IsReaderOf shelf.now (slice_index_or lanes.old i d).reader }
-    ensures { (i : ℕ) (d : Lane) → i < length lanes.old → IsReaderOf shelf.now (slice_index_or lanes.new i d).reader }
+fn look_each<R: Threads + Sync>(rt: &R, lanes: &mut [Lane], shelf: &Shelf<Edition>)
+    requires { All (λ l. IsReaderOf shelf.now l.reader) lanes.old }
+    ensures { All (λ l. IsReaderOf shelf.now l.reader) lanes.new }
 {
     for_each_mut(
         rt,
@@ -155,7 +184,7 @@ fn look_each<R: Threads + Sync>(rt: &R, lanes: &mut [Lane], shelf: &Shelf<u64>)
 }
 
 // A last look, when all is published; the reader ends.
-fn settle(mut lane: Lane, publisher: &mut Publisher<u64>, shelf: &Shelf<u64>) -> (u64, bool)
+fn settle(mut lane: Lane, publisher: &mut Publisher<Edition>, shelf: &Shelf<Edition>) -> (u64, bool)
     requires publisher { IsPublisherOf shelf.now publisher.old }
     requires reader { IsReaderOf shelf.now lane.reader }
     ensures { IsPublisherOf shelf.now publisher.new }
@@ -174,7 +203,7 @@ fn settle(mut lane: Lane, publisher: &mut Publisher<u64>, shelf: &Shelf<u64>) ->
 #[test]
 fn readers_beside_a_publisher(rt: HostRuntime) -> Result<(), Fail> {
     let alloc = rt.alloc();
-    let base = Arc::new(alloc, value_of(0))?;
+    let base = edition_of(alloc, 0)?;
     let (shelf, mut publisher) = Shelf::open(alloc, base, VersionNo(0), 64)?;
     let one = new_lane(&mut publisher, alloc, &shelf)?;
     let two = new_lane(&mut publisher, alloc, &shelf)?;

@@ -1,9 +1,8 @@
 //! A schedule: one loader's way through all documents, from any state.
-ghost use Rattle.std.specs.Prelude.{◌≡◌, ◌≢◌, ◌<◌, ◌≤◌, ◌↔◌, length, None, Some, IsSome, IfSome, position, find};
-ghost use Rattle.std.specs.Option.{option_copied};
+ghost use Rattle.std.specs.Prelude.{◌≡◌, ◌*◌, ◌<◌, ◌≤◌, ◌↔◌, List, length, None, Some, IfSome, position, find};
 ghost use Rattle.vg_base.specs.declared.numbers.DocIx.{DocIx};
 ghost use Rattle.build_core.specs.Rows.{ByRows, row};
-ghost use Rattle.build_core.specs.Core.{at, Enabled, Finished, IsStanding};
+ghost use Rattle.build_core.specs.Core.{DoneIsClosure, Enabled, Finished, IsStanding, KeepsSound, RunsTo, Sound};
 ghost use Rattle.build_core.specs.Next.{holder, is_held, is_unseen_in, is_wanted, next_of, step_of};
 
 use super::CoreState;
@@ -18,7 +17,8 @@ impl CoreState {
         requires { length self.now.docs ≡ length imports.now }
         ensures value { result ≡ next_of imports.now self.now.docs }
         ensures finished { (result ≡ None) ↔ Finished self.now.docs }
-        ensures enabled { 1 ≤ self.now.loaders → IfSome result (Enabled (ByRows imports.now) self.now) }
+        ensures enabled { 1 ≤ self.now.loaders
+            → IfSome result (Enabled (ByRows imports.now) self.now) }
     {
         let _documents = imports.len();
         match self.first_held() {
@@ -31,6 +31,37 @@ impl CoreState {
                 None => None,
             },
         }
+    }
+
+    /// One loader's way to the end: applies what `next_step` gives until nothing is left, and says how many events
+    /// that took. Takes no memory.
+    pub fn run_to_end(&mut self, imports: &Imports) -> u32
+        requires sized { length self.old.docs ≡ length imports.now }
+        requires loaders { 1 ≤ self.old.loaders }
+        ensures ran { RunsTo (ByRows imports.now) self.old result self.new }
+        ensures finished { Finished self.new.docs }
+        ensures few { result ≤ 3 * length imports.now }
+        ensures sized { length self.new.docs ≡ length self.old.docs }
+        ensures sound { KeepsSound (ByRows imports.now) self.old.docs self.new.docs }
+        ensures closure { (entries : List DocIx) → Sound (ByRows imports.now) entries self.old.docs
+            → DoneIsClosure (ByRows imports.now) entries self.new.docs }
+    {
+        self.step_to_end(imports)
+    }
+
+    fn step_to_end(&mut self, imports: &Imports) -> u32
+        requires sized { length self.old.docs ≡ length imports.now }
+        requires loaders { 1 ≤ self.old.loaders }
+        ensures ran { RunsTo (ByRows imports.now) self.old result self.new }
+        ensures finished { Finished self.new.docs }
+    {
+        let _documents = imports.len();
+        let mut count: u32 = 0;
+        while let Some(event) = self.next_step(imports) {
+            self.apply(imports, event);
+            count += 1;
+        }
+        count
     }
 
     fn first_held(&self) -> Option<usize>

@@ -1,6 +1,7 @@
 use Rattle.std.proofs.Common.{◌≡◌, ◌+◌, ◌-◌, ◌<◌, length, ◌∙◌, ap, arith}
-use Rattle.version_shelf.specs.Known.{facts, pairs}
-use Rattle.version_shelf.proofs.Noted.{facts_length, more_full, more_empty, more_pairs}
+use Rattle.version_shelf.specs.Known.{facts, pairs, values}
+use Rattle.version_shelf.proofs.Noted.{facts_length, more_full, more_empty}
+use Rattle.version_shelf.proofs.Values.{more_values}
 use Rattle.version_shelf.proofs.publisher.Publisher.publish.Goals as goal
 
 pub returns-in-Ok-clause-of : goal.returns-in-Ok-clause-of
@@ -28,7 +29,7 @@ returns-in-Ok-clause-known g c =
     let old = facts c.args.self.now.notes.items in
     let len : length old ≡ length c.args.shelf.now.cells.items = facts_length c.args.self.now.notes.items c.args.shelf.now.cells.items of.names in
     let r : c.args.self.now.count < length c.args.shelf.now.cells.items - 1 = c.requires.room in
-    more_pairs c.args.self.now.number old (facts c.fill_at.new.notes.items) c.args.self.now.count c.args.value c.in-Ok.ensures.known (omega arith) of.empty
+    more_values c.args.self.now.number old (facts c.fill_at.new.notes.items) c.args.self.now.count c.args.value c.in-Ok.ensures.known (omega arith) of.empty
 
 pub returns-in-Err-clause-of : goal.returns-in-Err-clause-of
 returns-in-Err-clause-of g c =
@@ -48,4 +49,4 @@ returns-in-Err-clause-of g c =
     }
 
 pub returns-in-Err-clause-unchanged : goal.returns-in-Err-clause-unchanged
-returns-in-Err-clause-unchanged g c = ap (λ l. pairs c.args.self.now.number l) c.in-Err.ensures.known.1
+returns-in-Err-clause-unchanged g c = ap (λ l. pairs c.args.self.now.number (values l)) c.in-Err.ensures.known.1

@@ -1,5 +1,5 @@
 use Rattle.std.proofs.Common.{◌≡◌, map, ◌∙◌, ap, arith}
-use Rattle.version_shelf.specs.Known.{facts, pairs}
+use Rattle.version_shelf.specs.Known.{facts, known}
 use Rattle.version_shelf.proofs.Noted.{bound_by}
 use Rattle.version_shelf.proofs.publisher.Publisher.reader.Goals as goal
 
@@ -58,4 +58,4 @@ returns-clause-reader g c =
     }
 
 pub returns-clause-met : goal.returns-clause-met
-returns-clause-met g c = ap (λ l. pairs c.args.self.now.number (facts l)) c.in_ok-notes.ensures.copies
+returns-clause-met g c = ap (λ l. known c.args.self.now.number l) c.in_ok-notes.ensures.copies

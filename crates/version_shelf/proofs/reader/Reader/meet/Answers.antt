@@ -1,7 +1,8 @@
 use Rattle.std.proofs.Common.{◌≡◌, ℕ, max, map, sym, ◌∙◌, subst, ap, arith}
-use Rattle.version_shelf.specs.Known.{facts, pairs, Keeps, OneValue}
+use Rattle.version_shelf.specs.Known.{facts, pairs, values, Keeps, OneValue}
 use Rattle.version_shelf.proofs.Noted.{met_seen, met_bound}
-use Rattle.version_shelf.proofs.Knowing.{keeps_pairs, agree_pairs, learnt_all, learnt_agrees}
+use Rattle.version_shelf.proofs.Knowing.{learnt_all, learnt_agrees}
+use Rattle.version_shelf.proofs.Values.{keeps_values, agree_values}
 use Rattle.version_shelf.proofs.reader.Reader.meet.Goals as goal
 
 pub learn_all-requires-clause-known : goal.learn_all-requires-clause-known
@@ -48,20 +49,20 @@ returns-clause-publisher g c =
     }
 
 pub returns-clause-keeps : goal.returns-clause-keeps
-returns-clause-keeps g c = keeps_pairs c.args.self.now.number (facts c.args.self.now.notes.items) (facts c.learn_all.new.mine.items) c.learn_all.ensures.keeps
+returns-clause-keeps g c = keeps_values c.args.self.now.number (facts c.args.self.now.notes.items) (facts c.learn_all.new.mine.items) c.learn_all.ensures.keeps
 
 pub returns-clause-met : goal.returns-clause-met
 returns-clause-met g c =
     let mine = facts c.learn_all.new.mine.items in
     let theirs = facts c.args.publisher.now.notes.items in
     let number : c.args.self.now.number ≡ c.args.publisher.now.number = c.requires.reader.number ∙ sym c.requires.publisher.number in
-    subst (λ (n : ℕ). Keeps (pairs n theirs) (pairs c.args.self.now.number mine)) number
-    (keeps_pairs c.args.self.now.number theirs mine (learnt_all mine theirs c.args.publisher.now.count c.learn_all.ensures.learnt c.requires.publisher.empty))
+    subst (λ (n : ℕ). Keeps (pairs n (values theirs)) (pairs c.args.self.now.number (values mine))) number
+    (keeps_values c.args.self.now.number theirs mine (learnt_all mine theirs c.args.publisher.now.count c.learn_all.ensures.learnt c.requires.publisher.empty))
 
 pub returns-clause-agrees : goal.returns-clause-agrees
 returns-clause-agrees g c =
     let mine = facts c.learn_all.new.mine.items in
     let theirs = facts c.args.publisher.now.notes.items in
     let number : c.args.self.now.number ≡ c.args.publisher.now.number = c.requires.reader.number ∙ sym c.requires.publisher.number in
-    subst (λ (n : ℕ). OneValue (pairs c.args.self.now.number mine) (pairs n theirs)) number
-    (agree_pairs c.args.self.now.number mine theirs (learnt_agrees mine theirs c.args.publisher.now.count c.learn_all.ensures.learnt c.requires.publisher.empty))
+    subst (λ (n : ℕ). OneValue (pairs c.args.self.now.number (values mine)) (pairs n (values theirs))) number
+    (agree_values c.args.self.now.number mine theirs (learnt_agrees mine theirs c.args.publisher.now.count c.learn_all.ensures.learnt c.requires.publisher.empty))

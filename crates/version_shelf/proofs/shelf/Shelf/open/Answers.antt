@@ -1,6 +1,7 @@
 use Rattle.std.proofs.Common.{◌∙◌, ap, arith, refl, Some}
 use Rattle.std.specs.Prelude.{slice_set}
-use Rattle.version_shelf.proofs.Noted.{base_full, base_empty, base_pairs}
+use Rattle.version_shelf.proofs.Noted.{base_full, base_empty}
+use Rattle.version_shelf.proofs.Values.{base_values}
 use Rattle.version_shelf.proofs.shelf.Shelf.open.Goals as goal
 
 pub returns-clause-of : goal.returns-clause-of
@@ -21,4 +22,4 @@ returns-clause-of g c =
     }
 
 pub returns-clause-known : goal.returns-clause-known
-returns-clause-known g c = base_pairs c.args.number.0 _ c.args.cells c.args.base (c.in-Ok.ensures.known ∙ ap (λ l. slice_set l 0 (Some c.args.base)) c.in_ok-cells.ensures.2)
+returns-clause-known g c = base_values c.args.number.0 _ c.args.cells c.args.base (c.in-Ok.ensures.known ∙ ap (λ l. slice_set l 0 (Some c.args.base)) c.in_ok-cells.ensures.2)
