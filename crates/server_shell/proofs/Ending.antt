@@ -1,117 +1,207 @@
--- How a run ends.
-use Rattle.std.proofs.Common.{◌≡◌, ℕ, List, [], ◌∷◌, ◌++◌, Bool, true, false, IsTrue, None, Some, length, ◌⊎◌, refl, sym, ap, ◌∙◌, subst, append_assoc, append-nil, arith, inl, inr, length-append, IfSome}
+-- How a run ends: from the invariant to what was answered of the input.
+--
+-- `Ahead` says which batches stand at the front of the lines so far and of those to come: the answered ones, and perhaps the
+-- one at hand. Each `ends_` lemma is one ending: nothing open at the end of input, an open batch that is answered there, a
+-- source that fails or gives too much, and replies that weren't had or delivered.
+use Rattle.std.proofs.Common.{◌≡◌, ◌≢◌, ℕ, ◌+◌, List, [], ◌∷◌, ◌++◌, Bool, IsTrue, None, Some, length, refl, sym, ap, ◌∙◌, subst, append_assoc, append-nil, inl, inr, IfSome}
 use Rattle.std.specs.declared.option.Option.{Option}
-use Rattle.std.specs.List.{flat_map}
-use Rattle.std.specs.Io.KnownBytes.{Appends, Consumes, IsAtEnd, prepend_known}
-use Rattle.std.proofs.KnownBytes.{Appends-trans, Consumes-nil}
-use Rattle.std.proofs.lemmas.List.{nil_from_length}
-use Rattle.vg_io.specs.Lines.{lines_of, whole_lines_of, LeavesNoLine}
-use Rattle.vg_io.proofs.Cutting.{whole_lines_of-none}
-use Rattle.server_shell.specs.declared.reply.Reply.{Reply}
-use Rattle.server_shell.specs.Lines.{line_of}
-use Rattle.server_shell.specs.State.{State, start}
-use Rattle.server_shell.specs.Answers.{RunsLines}
-use Rattle.server_shell.specs.Served.{ServesAll, ServesWhole, ServesFront, AreTaken}
-use Rattle.server_shell.specs.Turn.{TurnsPartly}
-use Rattle.server_shell.proofs.Runs.{RunsLines-more}
-use Rattle.server_shell.proofs.Progress.{Progress, Given, Given-more, Cuts, fed, last, IsFed, flat_map-both}
+use Rattle.server_shell.specs.Runs.{Runs}
+use Rattle.server_shell.specs.Batching.{IsOpen, batches_of, whole_batches_of}
+use Rattle.server_shell.specs.Service.{Service, read_lines, batches_in, whole_batches_in}
+use Rattle.server_shell.specs.Delivery.{Delivery, IsLawful}
+use Rattle.server_shell.specs.Served.{Outside, ServesAll, ServesWhole, ServesFront, AreTaken}
+use Rattle.server_shell.specs.code.Turning.{Hold, Finishes}
+use Rattle.server_shell.proofs.Divisions.{IsBatch, all_batch, all_open, none_open, whole_batch, whole_open}
+use Rattle.server_shell.proofs.LinesSoFar.{ReadsAll, ReadsWhole, ReadsFront}
+use Rattle.server_shell.proofs.Runs.{Runs-more, read_lines-append}
+use Rattle.server_shell.proofs.Progress.{Moment, Progress}
 
-nil_right : (xs ys : List ℕ) → xs ++ ys ≡ [] → ys ≡ []
-nil_right xs ys e = nil_from_length ys (omega (arith, ap length e, length-append xs ys))
+if_some : {A : Type 0} {P Q : A → Type 0} (o : Option A) → ((x : A) → P x → Q x) → IfSome o P → IfSome o Q
+if_some None f h = tt
+if_some (Some x) f h = f x h
 
-nil_left : (xs ys : List ℕ) → xs ++ ys ≡ [] → xs ≡ []
-nil_left xs ys e = nil_from_length xs (omega (arith, ap length e, length-append xs ys))
+module _ {S C L R O : Type 0} (service : Service S C L R) (delivery : Delivery O R) (lawful : IsLawful delivery) where
+  -- ---- which batches the lines have
 
--- all was read
-lines_at_end : (xs ys : List ℕ) (f : Bool) (lines : List (List ℕ)) → Cuts xs ys f lines → ys ≡ [] → lines_of xs ≡ lines
-unfolding IsFed lines_of
-lines_at_end xs ys f lines (fed going text is whole) e = ap lines_of (whole ∙ ap (λ l. text ++ l) e) ∙ (is []).0 ∙ append-nil lines
-lines_at_end xs ys f lines (last done all none) e = all
+  module _ {Is : C → List L → Type 0} {first : Outside O} {now : Moment S L O} (p : Progress service delivery Is first now) where
+    -- whatever lines stand behind them
+    whole_then : (more : List (List ℕ)) → whole_batches_in service (p.lines ++ more)
+        ≡ p.batches ++ whole_batches_of service.division service.division.first (now.hold.kept.pending ++ read_lines service (1 + length p.lines) more)
+    whole_then more =
+        ap (whole_batches_of service.division service.division.first)
+        (read_lines-append service 1 p.lines more ∙ ap (λ l. l ++ read_lines service (1 + length p.lines) more) p.whole
+        ∙ append_assoc p.front now.hold.kept.pending _)
+        ∙ p.divides.whole _
 
-none_at_end : (xs ys : List ℕ) (f : Bool) (lines : List (List ℕ)) → Cuts xs ys f lines → IsTrue f → ys ≡ []
-none_at_end xs ys f lines (fed going text is whole) e = cc
-none_at_end xs ys f lines (last done all none) e = none
+    whole_now : whole_batches_in service p.lines ≡ p.batches ++ whole_batches_of service.division service.division.first now.hold.kept.pending
+    whole_now = ap (whole_batches_of service.division service.division.first) p.whole ∙ p.divides.whole now.hold.kept.pending
 
-pub ends_all : (a b c w w' w'' : Option (List ℕ)) (h bytes : List ℕ) (f : Bool) (s : State) (number : ℕ) → Progress a b w w' h f s number
-    → IsAtEnd (prepend_known h b) ⊎ IsTrue f → Consumes b c bytes → w'' ≡ w' → ServesAll a c w w''
-unfolding Given
-ends_all None b c w w' w'' h bytes f s number p end took same = tt
-ends_all (Some xs) None c w w' w'' h bytes f s number p end took same = absurd p.given
-ends_all (Some xs) (Some l) None w w' w'' h bytes f s number p end took same = absurd took
-ends_all (Some xs) (Some l) (Some l') w w' w'' h bytes f s number p at took same =
-    let end : h ++ l ≡ [] = elim at [ inl none ↦ none | inr is ↦ none_at_end xs (h ++ l) f p.lines p.given is ] in (
-      ap Some (nil_right bytes l' (sym took ∙ nil_right h l end)),
-      p.replies,
-      (s, subst (λ ls. RunsLines start 1 ls p.replies s) (sym (lines_at_end xs _ f p.lines p.given end)) p.run),
-      subst (λ v. Appends w v (flat_map line_of p.replies)) (sym same) p.written,
-    )
+    all_now : batches_in service p.lines ≡ p.batches ++ batches_of service.division service.division.first now.hold.kept.pending
+    all_now = ap (batches_of service.division service.division.first) p.whole ∙ p.divides.all now.hold.kept.pending
 
-whole_at : (xs ys front rest : List ℕ) (lines : List (List ℕ)) → Cuts xs ys false lines → (front_none : whole_lines_of front ≡ []) → ys ≡ front ++ rest
-    → (taken : List ℕ) × (xs ≡ taken ++ rest) × (whole_lines_of taken ≡ lines)
-unfolding IsFed
-whole_at xs ys front rest lines (fed going text is whole) none cut = (
-  text ++ front,
-  whole ∙ ap (λ l. text ++ l) cut ∙ sym (append_assoc text front rest),
-  (is front).1 ∙ ap (λ l. lines ++ l) none ∙ append-nil lines,
-)
-whole_at xs ys front rest lines (last done all end) none cut = cc
+    -- these batches stand at the front of the open one and of what stands behind it
+    pub record Ahead (bs : List (List L)) : Type 0 where
+      pub whole : (rest : List L) → (more : List (List L))
+          × (whole_batches_of service.division service.division.first (now.hold.kept.pending ++ rest) ≡ bs ++ more)
+      pub all : (more : List (List L)) × (batches_of service.division service.division.first now.hold.kept.pending ≡ bs ++ more)
 
-pub ends_whole : (a b c w w' w'' : Option (List ℕ)) (h : List ℕ) (f : Bool) (s : State) (number : ℕ) → Progress a b w w' h f s number
-    → f ≡ false → LeavesNoLine (prepend_known h b) c → w'' ≡ w' → ServesWhole a c w w''
-unfolding Given
-ends_whole None b c w w' w'' h f s number p going leaves same = tt
-ends_whole (Some xs) None c w w' w'' h f s number p going leaves same = absurd p.given
-ends_whole (Some xs) (Some l) None w w' w'' h f s number p going leaves same = absurd leaves
-ends_whole (Some xs) (Some l) (Some rest) w w' w'' h f s number p going (front, none, cut) same =
-    let (taken, split, whole) = whole_at xs _ front rest p.lines (subst (λ g. Cuts xs (h ++ l) g p.lines) going p.given) (whole_lines_of-none front none) cut in (
-      taken,
-      rest,
-      refl,
-      split,
-      p.replies,
-      s,
-      subst (λ ls. RunsLines start 1 ls p.replies s) (sym whole) p.run,
-      subst (λ v. Appends w v (flat_map line_of p.replies)) (sym same) p.written,
-    )
+    none_ahead : Ahead []
+    none_ahead = record { whole = λ rest. (_, refl); all = (_, refl) }
 
-taken_by : (xs l l' h bytes : List ℕ) (f e : Bool) (lines : List (List ℕ)) → Cuts xs (h ++ l) f lines → (IsTrue f → IsTrue e) → l ≡ bytes ++ l' → (taken : List ℕ) × (xs ≡ taken ++ l') × AreTaken lines taken l' e
-unfolding IsFed
-taken_by xs l l' h bytes f e lines (fed going text is whole) told took = (
-  text ++ (h ++ bytes),
-  whole ∙ ap (λ k. text ++ (h ++ k)) took ∙ ap (λ k. text ++ k) (sym (append_assoc h bytes l')) ∙ sym (append_assoc text (h ++ bytes) l'),
-  inl (whole_lines_of (h ++ bytes), (is (h ++ bytes)).1),
-)
-taken_by xs l l' h bytes f e lines (last done all end) told took =
-    let none : l' ≡ [] = nil_right bytes l' (sym took ∙ nil_right h l end) in
-    (xs, sym (append-nil xs) ∙ ap (λ k. xs ++ k) (sym none), inr (all, none, told done))
+    taken_ahead : {xs : List ℕ} {left : Option (List ℕ)} {ended : Bool} (bs : List (List L)) → Ahead bs → (r : ReadsFront xs left ended p.lines)
+        → AreTaken service delivery (p.batches ++ bs) r.taken r.rest ended
+    taken_ahead bs ahead r =
+        elim r.lines [
+          | inl (more, e) ↦
+              let (others, w) = ahead.whole (read_lines service (1 + length p.lines) more) in
+              inl (others, ap (whole_batches_in service) e ∙ whole_then more ∙ ap (λ l. p.batches ++ l) w ∙ sym (append_assoc p.batches bs others))
+          | inr (e, none, ended) ↦
+              let (others, a) = ahead.all in
+              inr (others, ap (batches_in service) e ∙ all_now ∙ ap (λ l. p.batches ++ l) a ∙ sym (append_assoc p.batches bs others), none, ended)
+        ]
 
-pub taken_of : (a b c : Option (List ℕ)) (h bytes : List ℕ) (f e : Bool) (lines : List (List ℕ)) → Given a (prepend_known h b) f lines → (IsTrue f → IsTrue e) → Consumes b c bytes
-    → IfSome a (λ xs. (taken rest : List ℕ) × (c ≡ Some rest) × (xs ≡ taken ++ rest) × AreTaken lines taken rest e)
-unfolding Given
-taken_of None b c h bytes f e lines g told took = tt
-taken_of (Some xs) None c h bytes f e lines g told took = absurd g
-taken_of (Some xs) (Some l) None h bytes f e lines g told took = absurd took
-taken_of (Some xs) (Some l) (Some l') h bytes f e lines g told took = let (taken, split, are) = taken_by xs l l' h bytes f e lines g told took in (taken, l', refl, split, are)
+    -- ---- nothing more was delivered
 
-front_from : (a c w w' : Option (List ℕ)) (e : Bool) (lines : List (List ℕ)) (replies : List Reply) (t : State) (got unwritten : List ℕ)
-    → IfSome a (λ xs. (taken rest : List ℕ) × (c ≡ Some rest) × (xs ≡ taken ++ rest) × AreTaken lines taken rest e)
-    → RunsLines start 1 lines replies t → flat_map line_of replies ≡ got ++ unwritten → Appends w w' got → ServesFront a c e w w'
-front_from None c w w' e lines replies t got unwritten taken run text appended = tt
-front_from (Some xs) c w w' e lines replies t got unwritten (taken, rest, left, split, are) run text appended =
-    (taken, rest, left, split, lines, are, replies, t, run, got, unwritten, text, appended)
+    begun : (new : O) → new ≡ now.hold.out → delivery.begins first.out new p.replies
+    begun new same =
+        subst (λ o. delivery.begins first.out o p.replies) (sym same)
+        (subst (delivery.begins first.out now.hold.out) (append-nil p.replies)
+        (lawful.part first.out now.hold.out now.hold.out p.replies [] p.delivered (lawful.none now.hold.out [])))
 
--- nothing was written for the line
-pub ends_front : (a b c w w' w'' : Option (List ℕ)) (h bytes : List ℕ) (f e : Bool) (s : State) (number : ℕ) → Progress a b w w' h f s number
-    → (IsTrue f → IsTrue e) → Consumes b c bytes → w'' ≡ w' → ServesFront a c e w w''
-ends_front a b c w w' w'' h bytes f e s number p told took same =
-    front_from a c w w'' e p.lines p.replies s (flat_map line_of p.replies) [] (taken_of a b c h bytes f e p.lines p.given told took) p.run (sym (append-nil _)) (subst (λ v. Appends w v (flat_map line_of p.replies)) (sym same) p.written)
+    pub ends_front : (new : Outside O) → new.out ≡ now.hold.out
+        → IfSome first.source.left (λ xs. ReadsFront xs new.source.left new.source.ended p.lines)
+        → IfSome first.source.left (ServesFront service delivery first new)
+    ends_front new same reads =
+        if_some first.source.left (λ xs r. record {
+          taken = r.taken;
+          rest = r.rest;
+          left = r.left;
+          cut = r.cut;
+          batches = p.batches;
+          front = subst (λ bs. AreTaken service delivery bs r.taken r.rest new.source.ended) (append-nil p.batches) (taken_ahead [] none_ahead r);
+          replies = p.replies;
+          answers = (now.hold.kept.stands, p.run);
+          delivered = begun new.out same;
+        }) reads
 
--- a front of its reply was
-pub ends_partly : (a b c w w' w'' : Option (List ℕ)) (h h' : List ℕ) (f f' e : Bool) (s t : State) (number : ℕ) → Progress a b w w' h f s number
-    → (IsTrue f' → IsTrue e) → TurnsPartly (prepend_known h b) (prepend_known h' c) f' s t number w' w'' → ServesFront a c e w w''
-ends_partly a b c w w' w'' h h' f f' e s t number p told (now, (line, gives, answered), (got, unwritten, text, appended)) =
-    front_from a c w w'' e (p.lines ++ line ∷ []) (p.replies ++ now) t (flat_map line_of p.replies ++ got) unwritten
-    (taken_of a c c h' [] f' e (p.lines ++ line ∷ []) (Given-more _ _ _ f f' p.lines line p.given gives) told (Consumes-nil c))
-    (RunsLines-more p.lines start s t 1 number p.replies now line p.count p.run answered)
-    (flat_map-both p.replies now ∙ ap (λ l. flat_map line_of p.replies ++ l) text ∙ sym (append_assoc _ got unwritten))
-    (Appends-trans w w' w'' _ got p.written appended)
+    -- ---- a front of the replies of the batch at hand was delivered
+
+    pub record Partly (out : O) : Type 0 where
+      pub replies : List R
+      pub answers : service.answers now.hold.kept.stands now.hold.kept.pending replies
+      pub begins : delivery.begins now.hold.out out replies
+
+    pub ends_partly : (new : Outside O) → Ahead (now.hold.kept.pending ∷ []) → Partly new.out
+        → IfSome first.source.left (λ xs. ReadsFront xs new.source.left new.source.ended p.lines)
+        → IfSome first.source.left (ServesFront service delivery first new)
+    ends_partly new ahead part reads =
+        if_some first.source.left (λ xs r. record {
+          taken = r.taken;
+          rest = r.rest;
+          left = r.left;
+          cut = r.cut;
+          batches = p.batches ++ now.hold.kept.pending ∷ [];
+          front = taken_ahead (now.hold.kept.pending ∷ []) ahead r;
+          replies = p.replies ++ part.replies;
+          answers = (
+            service.after now.hold.kept.stands now.hold.kept.pending part.replies,
+            Runs-more service.answers service.after now.hold.kept.pending part.replies p.batches service.start now.hold.kept.stands p.replies p.run part.answers,
+          );
+          delivered = lawful.part first.out now.hold.out new.out p.replies part.replies p.delivered part.begins;
+        }) reads
+
+  module _ {first : Outside O} {now : Moment S L O} where
+    -- a batch that its last line ended stands ahead
+    pub batch_ahead : (p : Progress service delivery (IsBatch service.division) first now) → Ahead p (now.hold.kept.pending ∷ [])
+    batch_ahead p = record {
+      whole = λ rest. (_, whole_batch service.division service.division.first now.hold.kept.pending rest p.pending);
+      all = (_, ap (batches_of service.division service.division.first) (sym (append-nil now.hold.kept.pending)) ∙ all_batch service.division service.division.first now.hold.kept.pending [] p.pending);
+    }
+
+    module _ (p : Progress service delivery (IsOpen service.division) first now) where
+      open_is_one : (xs : List L) → IsOpen service.division service.division.first xs → xs ≢ [] → batches_of service.division service.division.first xs ≡ xs ∷ []
+      open_is_one [] is some = absurd (some refl)
+      open_is_one (x ∷ xs) is some = all_open service.division service.division.first x xs is
+
+      -- the batches of all lines, where nothing is open
+      all_closed : now.hold.kept.pending ≡ [] → batches_in service p.lines ≡ p.batches
+      all_closed none =
+          all_now p ∙ ap (λ l. p.batches ++ batches_of service.division service.division.first l) none
+          ∙ ap (λ l. p.batches ++ l) (none_open service.division service.division.first) ∙ append-nil p.batches
+
+      -- and where a batch is
+      all_last : now.hold.kept.pending ≢ [] → batches_in service p.lines ≡ p.batches ++ now.hold.kept.pending ∷ []
+      all_last some = all_now p ∙ ap (λ l. p.batches ++ l) (open_is_one now.hold.kept.pending p.pending some)
+
+      -- ---- the end of input
+
+      pub ends_all : (new : Outside O) → now.hold.kept.pending ≡ [] → new.out ≡ now.hold.out
+          → IfSome first.source.left (λ xs. ReadsAll xs new.source.left p.lines)
+          → IfSome first.source.left (ServesAll service delivery first new)
+      ends_all new none same reads =
+          if_some first.source.left (λ xs r. record {
+            left = r.left;
+            replies = p.replies;
+            answers = (
+              now.hold.kept.stands,
+              subst (λ bs. Runs service.answers service.after service.start bs p.replies now.hold.kept.stands) (sym (ap (batches_in service) r.lines ∙ all_closed none)) p.run,
+            );
+            delivered = subst (λ o. delivery.takes first.out o p.replies) (sym same) p.delivered;
+          }) reads
+
+      -- the open batch is answered there
+      pub ends_last : (new : Outside O) (after : Hold S L O) → now.hold.kept.pending ≢ [] → Finishes service delivery now.hold after → new.out ≡ after.out
+          → IfSome first.source.left (λ xs. ReadsAll xs new.source.left p.lines)
+          → IfSome first.source.left (ServesAll service delivery first new)
+      ends_last new after some f same reads =
+          if_some first.source.left (λ xs r. record {
+            left = r.left;
+            replies = p.replies ++ f.replies;
+            answers = (
+              service.after now.hold.kept.stands now.hold.kept.pending f.replies,
+              subst (λ bs. Runs service.answers service.after service.start bs (p.replies ++ f.replies) (service.after now.hold.kept.stands now.hold.kept.pending f.replies))
+                  (sym (ap (batches_in service) r.lines ∙ all_last some))
+                  (Runs-more service.answers service.after now.hold.kept.pending f.replies p.batches service.start now.hold.kept.stands p.replies p.run f.runs.answers),
+            );
+            delivered = subst (λ o. delivery.takes first.out o (p.replies ++ f.replies)) (sym same) (lawful.more first.out now.hold.out after.out p.replies f.replies p.delivered f.takes);
+          }) reads
+
+      -- or a front of its replies is delivered
+      pub ends_last_partly : (new : Outside O) → now.hold.kept.pending ≢ [] → Partly p new.out → IsTrue new.source.ended
+          → IfSome first.source.left (λ xs. ReadsAll xs new.source.left p.lines)
+          → IfSome first.source.left (ServesFront service delivery first new)
+      ends_last_partly new some part ended reads =
+          if_some first.source.left (λ xs r. record {
+            taken = xs;
+            rest = [];
+            left = r.left;
+            cut = sym (append-nil xs);
+            batches = p.batches ++ now.hold.kept.pending ∷ [];
+            front = inr ([], ap (batches_in service) r.lines ∙ all_last some ∙ sym (append-nil _), refl, ended);
+            replies = p.replies ++ part.replies;
+            answers = (
+              service.after now.hold.kept.stands now.hold.kept.pending part.replies,
+              Runs-more service.answers service.after now.hold.kept.pending part.replies p.batches service.start now.hold.kept.stands p.replies p.run part.answers,
+            );
+            delivered = lawful.part first.out now.hold.out new.out p.replies part.replies p.delivered part.begins;
+          }) reads
+
+      -- ---- a source that fails or gives too much
+
+      pub ends_whole : (new : Outside O) → new.out ≡ now.hold.out
+          → IfSome first.source.left (λ xs. ReadsWhole xs new.source.left p.lines)
+          → IfSome first.source.left (ServesWhole service delivery first new)
+      ends_whole new same reads =
+          if_some first.source.left (λ xs r. record {
+            taken = r.taken;
+            rest = r.rest;
+            left = r.left;
+            cut = r.cut;
+            replies = p.replies;
+            answers = (
+              now.hold.kept.stands,
+              subst (λ bs. Runs service.answers service.after service.start bs p.replies now.hold.kept.stands)
+                  (sym (ap (whole_batches_in service) r.lines ∙ whole_now p ∙ ap (λ l. p.batches ++ l) (whole_open service.division service.division.first now.hold.kept.pending p.pending) ∙ append-nil p.batches)) p.run,
+            );
+            delivered = subst (λ o. delivery.takes first.out o p.replies) (sym same) p.delivered;
+          }) reads

@@ -1,102 +1,133 @@
 -- How far a run has come.
-use Rattle.std.proofs.Common.{◌≡◌, ℕ, ◌+◌, List, [], ◌∷◌, ◌++◌, Bool, true, false, None, Some, length, refl, sym, ap, ◌∙◌, subst, append_assoc, arith, inl, inr, length-append}
-use Rattle.std.specs.declared.option.Option.{Option}
-use Rattle.std.specs.List.{flat_map}
-use Rattle.std.specs.Io.KnownBytes.{Appends, prepend_known}
-use Rattle.std.proofs.KnownBytes.{Appends-trans, Appends-nil}
-use Rattle.vg_io.specs.Lines.{lines_of, whole_lines_of, GivesLine, BeginsWithLine, HasNoFeed}
-use Rattle.vg_io.proofs.Cutting.{lines_of-line, whole_lines_of-line, lines_of-last}
-use Rattle.server_shell.specs.declared.reply.Reply.{Reply}
-use Rattle.server_shell.specs.Lines.{line_of}
-use Rattle.server_shell.specs.State.{State, start}
-use Rattle.server_shell.specs.Answers.{RunsLines}
-use Rattle.server_shell.specs.Turn.{TurnsOn}
-use Rattle.server_shell.proofs.Runs.{RunsLines-more}
+--
+-- `Progress` is the loop's invariant: the lines so far (`LinesSoFar`), divided into batches that were answered and the lines
+-- of the open batch (`Divisions`), the run over those batches, and the delivery of their replies. `line_taken` adds a line to
+-- the open batch, `batch_run` answers a batch that a line ended.
+use Rattle.std.proofs.Common.{◌≡◌, ℕ, ◌+◌, Bool, true, false, List, [], ◌∷◌, ◌++◌, None, length, refl, sym, ap, ◌∙◌, subst, append_assoc, append-nil, arith, length-append, inl, inr, ◌⊎◌}
+use Rattle.vg_io.specs.Reader.{Intake, Reading, GivesNext}
+use Rattle.server_shell.specs.declared.batches.Taken.{Taken}
+use Rattle.server_shell.specs.declared.batches.Taken.TheVariants as taken
+use Rattle.server_shell.specs.Runs.{Runs}
+use Rattle.server_shell.specs.Batching.{IsOpen, count_behind}
+use Rattle.server_shell.specs.Service.{Service, Kept, TakesLine, read_lines}
+use Rattle.server_shell.specs.Delivery.{Delivery, IsLawful}
+use Rattle.server_shell.specs.Served.{Outside}
+use Rattle.server_shell.specs.code.Turning.{Hold, Finishes}
+use Rattle.server_shell.proofs.Divisions.{IsBatch, Divides, divides_none, divides_more, open_more, batch_more}
+use Rattle.server_shell.proofs.LinesSoFar.{Given, given_none, given_more}
+use Rattle.server_shell.proofs.Runs.{Runs-more, read_lines-append}
 
--- the text is these lines, each with its line feed
-unfoldable pub IsFed : List ℕ → List (List ℕ) → Type 0
-IsFed text lines = (rest : List ℕ) → (lines_of (text ++ rest) ≡ lines ++ lines_of rest) × (whole_lines_of (text ++ rest) ≡ lines ++ whole_lines_of rest)
+-- the reader and its source, where replies go, what the server keeps, and the number of the next line
+pub record Moment (S L O : Type 0) : Type 0 where
+  pub intake : Intake
+  pub hold : Hold S L O
+  pub number : ℕ
 
--- the lines stand at the front of all bytes, and ys is left; or they are all, the last with no line feed
-pub data Cuts (xs ys : List ℕ) (ended : Bool) (lines : List (List ℕ)) : Type 0 where
-  fed : ended ≡ false → (text : List ℕ) → IsFed text lines → xs ≡ text ++ ys → Cuts xs ys ended lines
-  last : ended ≡ true → lines_of xs ≡ lines → ys ≡ [] → Cuts xs ys ended lines
+module _ {S C L R O : Type 0} (service : Service S C L R) (delivery : Delivery O R) where
+  -- the lines so far are the lines of answered batches and those of the open batch, of which `Is` holds
+  pub record Progress (Is : C → List L → Type 0) (first : Outside O) (now : Moment S L O) : Type 0 where
+    pub lines : List (List ℕ)
+    pub given : Given first.source.left now.intake lines
+    pub count : now.number ≡ 1 + length lines
+    pub front : List L
+    pub batches : List (List L)
+    pub divides : Divides service.division front batches
+    pub whole : read_lines service 1 lines ≡ front ++ now.hold.kept.pending
+    pub pending : Is service.division.first now.hold.kept.pending
+    pub replies : List R
+    pub run : Runs service.answers service.after service.start batches replies now.hold.kept.stands
+    pub delivered : delivery.takes first.out now.hold.out replies
 
-unfoldable pub Given : Option (List ℕ) → Option (List ℕ) → Bool → List (List ℕ) → Type 0
-Given None b f lines = Unit {0}
-Given (Some xs) None f lines = ⊥
-Given (Some xs) (Some ys) f lines = Cuts xs ys f lines
+  -- a line was given and taken, and nothing else was done
+  pub record TakesOne (now new : Moment S L O) (answer : Taken) : Type 0 where
+    pub line : List ℕ
+    pub gives : GivesNext now.intake new.intake line
+    pub takes : TakesLine service now.hold.kept new.hold.kept (service.read now.number line) answer
+    pub out : new.hold.out ≡ now.hold.out
+    pub number : new.number ≡ now.number + 1
 
-pub record Progress (left_old left_new written_old written_new : Option (List ℕ)) (held : List ℕ) (ended : Bool) (s : State) (number : ℕ) : Type 0 where
-  pub lines : List (List ℕ)
-  pub replies : List Reply
-  pub run : RunsLines start 1 lines replies s
-  pub count : number ≡ 1 + length lines
-  pub written : Appends written_old written_new (flat_map line_of replies)
-  pub given : Given left_old (prepend_known held left_new) ended lines
+  line_taken : {Is : C → List L → Type 0} {first : Outside O} {now : Moment S L O} {answer : Taken} (new : Moment S L O)
+      → Progress (IsOpen service.division) first now → TakesOne now new answer
+      → Is service.division.first new.hold.kept.pending → Progress Is first new
+  line_taken {Is} {first} {now} new p t is = record {
+    lines = p.lines ++ t.line ∷ [];
+    given = given_more new.intake t.line p.given t.gives;
+    count = omega (arith, p.count, t.number, length-append p.lines (t.line ∷ []));
+    front = p.front;
+    batches = p.batches;
+    divides = p.divides;
+    whole =
+        read_lines-append service 1 p.lines (t.line ∷ [])
+        ∙ ap (λ l. l ++ service.read (1 + length p.lines) t.line ∷ []) p.whole
+        ∙ ap (λ n. (p.front ++ now.hold.kept.pending) ++ service.read n t.line ∷ []) (sym p.count)
+        ∙ append_assoc p.front now.hold.kept.pending _
+        ∙ ap (λ (k : Kept S L). p.front ++ k.pending) (sym t.takes.kept);
+    pending = is;
+    replies = p.replies;
+    run = subst (Runs service.answers service.after service.start p.batches p.replies) (ap (λ (k : Kept S L). k.stands) (sym t.takes.kept)) p.run;
+    delivered = subst (λ o. delivery.takes first.out o p.replies) (sym t.out) p.delivered;
+  }
 
-IsFed-nil : IsFed [] []
-unfolding IsFed
-IsFed-nil rest = (refl, refl)
+  false_or_true : (b : Bool) → (b ≡ true) ⊎ (b ≡ false)
+  false_or_true true = inl refl
+  false_or_true false = inr refl
 
-IsFed-more : (text : List ℕ) (lines : List (List ℕ)) (line : List ℕ) → IsFed text lines → HasNoFeed line → IsFed (text ++ (line ++ 10 ∷ [])) (lines ++ line ∷ [])
-unfolding IsFed
-IsFed-more text lines line h n rest =
-    let regroup = append_assoc text (line ++ 10 ∷ []) rest ∙ ap (λ l. text ++ l) (append_assoc line (10 ∷ []) rest) in
-    let (l, w) = h (line ++ 10 ∷ rest) in (
-      ap lines_of regroup ∙ l ∙ ap (λ k. lines ++ k) (lines_of-line line rest n) ∙ sym (append_assoc lines (line ∷ []) (lines_of rest)),
-      ap whole_lines_of regroup ∙ w ∙ ap (λ k. lines ++ k) (whole_lines_of-line line rest n) ∙ sym (append_assoc lines (line ∷ []) (whole_lines_of rest)),
-    )
+  -- the open batch goes on
+  pub line_more : {first : Outside O} {now : Moment S L O} (new : Moment S L O) → Progress (IsOpen service.division) first now
+      → TakesOne now new taken.More → Progress (IsOpen service.division) first new
+  line_more {first} {now} new p t =
+      let d = service.division in
+      let before = now.hold.kept.pending in
+      let x = service.read now.number t.line in
+      let goes : d.ends (count_behind d d.first before) x ≡ false =
+      elim (false_or_true (d.ends (count_behind d d.first before) x)) [ inl e ↦ absurd (let h = t.takes.full.1 e in cc) | inr e ↦ e ] in
+      line_taken new p t (subst (λ (k : Kept S L). IsOpen d d.first k.pending) (sym t.takes.kept) (open_more d d.first before x p.pending goes))
 
-Cuts-more : (xs ys zs : List ℕ) (f f' : Bool) (lines : List (List ℕ)) (line : List ℕ) → Cuts xs ys f lines → BeginsWithLine ys line zs f' → Cuts xs zs f' (lines ++ line ∷ [])
-unfolding IsFed
-Cuts-more xs ys zs f f' lines line (fed going text is whole) b =
-    elim b.cut [
-      | inl (e, cut) ↦ fed e (text ++ (line ++ 10 ∷ [])) (IsFed-more text lines line is b.no_feed)
-          (whole ∙ ap (λ l. text ++ l) cut ∙ ap (λ l. text ++ l) (sym (append_assoc line (10 ∷ []) zs)) ∙ sym (append_assoc text (line ++ 10 ∷ []) zs))
-      | inr (e, cut, some, none) ↦ last e
-          (ap lines_of (whole ∙ ap (λ l. text ++ l) cut) ∙ (is line).0 ∙ ap (λ l. lines ++ l) (lines_of-last line b.no_feed some)) none
-    ]
-Cuts-more xs ys zs f f' lines line (last done all none) b =
-    elim b.cut [
-      | inl (e, cut) ↦ absurd (let n : length ys ≡ 0 = ap length none in omega (arith, ap length cut, length-append line (10 ∷ zs)))
-      | inr (e, cut, some, end) ↦ absurd (let n : length ys ≡ 0 = ap length none in omega (arith, ap length cut))
-    ]
+  -- the line ended it
+  pub line_full : {first : Outside O} {now : Moment S L O} (new : Moment S L O) → Progress (IsOpen service.division) first now
+      → TakesOne now new taken.Full → Progress (IsBatch service.division) first new
+  line_full {first} {now} new p t =
+      let d = service.division in
+      let before = now.hold.kept.pending in
+      let x = service.read now.number t.line in
+      line_taken new p t (subst (λ (k : Kept S L). IsBatch d d.first k.pending) (sym t.takes.kept) (batch_more d d.first before x p.pending (t.takes.full.0 refl)))
 
-pub Given-more : (a b c : Option (List ℕ)) (f f' : Bool) (lines : List (List ℕ)) (line : List ℕ) → Given a b f lines → GivesLine b c f' line → Given a c f' (lines ++ line ∷ [])
-unfolding Given
-Given-more None b c f f' lines line g h = tt
-Given-more (Some xs) None c f f' lines line g h = absurd g
-Given-more (Some xs) (Some ys) None f f' lines line g h = absurd h
-Given-more (Some xs) (Some ys) (Some zs) f f' lines line g h = Cuts-more xs ys zs f f' lines line g h
+  -- a batch that ended was answered, and its replies delivered
+  pub batch_run : {first : Outside O} {now : Moment S L O} (new : Hold S L O) → IsLawful delivery
+      → Progress (IsBatch service.division) first now → Finishes service delivery now.hold new
+      → Progress (IsOpen service.division) first (record now { hold = new })
+  batch_run {first} {now} new lawful p f =
+      let empty : new.kept.pending ≡ [] = ap (λ (k : Kept S L). k.pending) f.runs.kept in record {
+        lines = p.lines;
+        given = p.given;
+        count = p.count;
+        front = p.front ++ now.hold.kept.pending;
+        batches = p.batches ++ now.hold.kept.pending ∷ [];
+        divides = divides_more service.division p.front now.hold.kept.pending p.batches p.divides p.pending;
+        whole = p.whole ∙ sym (append-nil _) ∙ ap (λ l. (p.front ++ now.hold.kept.pending) ++ l) (sym empty);
+        pending = subst (IsOpen service.division service.division.first) (sym empty) tt;
+        replies = p.replies ++ f.replies;
+        run =
+            subst (Runs service.answers service.after service.start (p.batches ++ now.hold.kept.pending ∷ []) (p.replies ++ f.replies))
+            (ap (λ (k : Kept S L). k.stands) (sym f.runs.kept))
+            (Runs-more service.answers service.after now.hold.kept.pending f.replies p.batches service.start now.hold.kept.stands p.replies p.run f.runs.answers);
+        delivered = lawful.more first.out now.hold.out new.out p.replies f.replies p.delivered f.takes;
+      }
 
-Given-start : (a : Option (List ℕ)) → Given a (prepend_known [] a) false []
-unfolding Given
-Given-start None = tt
-Given-start (Some xs) = fed refl [] IsFed-nil refl
-
-pub Progress-start : (a w : Option (List ℕ)) → Progress a a w w [] false start 1
-Progress-start a w = record {
-  lines = [];
-  replies = [];
-  run = (refl, refl);
-  count = refl;
-  written = Appends-nil w;
-  given = Given-start a;
-}
-
-pub flat_map-both : (xs ys : List Reply) → flat_map line_of (xs ++ ys) ≡ flat_map line_of xs ++ flat_map line_of ys
-flat_map-both [] ys = refl
-flat_map-both (x ∷ xs) ys = ap (λ l. line_of x ++ l) (flat_map-both xs ys) ∙ sym (append_assoc (line_of x) _ _)
-
--- one more line
-pub Progress-more : (a b c w w' w'' : Option (List ℕ)) (h h' : List ℕ) (f f' : Bool) (s t : State) (number : ℕ) → Progress a b w w' h f s number
-    → TurnsOn (prepend_known h b) (prepend_known h' c) f' s t number w' w'' → Progress a c w w'' h' f' t (number + 1)
-Progress-more a b c w w' w'' h h' f f' s t number p (now, (line, gives, answered), more) = record {
-  lines = p.lines ++ line ∷ [];
-  replies = p.replies ++ now;
-  run = RunsLines-more p.lines start s t 1 number p.replies now line p.count p.run answered;
-  count = omega (arith, p.count, length-append p.lines (line ∷ []));
-  written = subst (Appends w w'') (sym (flat_map-both p.replies now)) (Appends-trans w w' w'' _ _ p.written more);
-  given = Given-more _ _ _ f f' p.lines line p.given gives;
-}
+  -- at the beginning
+  pub progress_none : (now : Moment S L O) → IsLawful delivery → now.intake.reader ≡ record { held = []; taken = 0; ended = false; finished = None }
+      → now.hold.kept ≡ record { stands = service.start; pending = [] } → now.number ≡ 1
+      → Progress (IsOpen service.division) (record { source = now.intake.source; out = now.hold.out }) now
+  progress_none now lawful fresh empty one = record {
+    lines = [];
+    given = given_none now.intake (ap (λ (r : Reading). r.held) fresh) (ap (λ (r : Reading). r.ended) fresh);
+    count = one;
+    front = [];
+    batches = [];
+    divides = divides_none service.division;
+    whole = ap (λ (k : Kept S L). k.pending) (sym empty);
+    pending = subst (λ (k : Kept S L). IsOpen service.division service.division.first k.pending) (sym empty) tt;
+    replies = [];
+    run = (refl, ap (λ (k : Kept S L). k.stands) empty);
+    delivered = lawful.nothing now.hold.out;
+  }

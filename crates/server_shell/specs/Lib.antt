@@ -1,11 +1,11 @@
-pub mod Commands
-pub mod Words
-pub mod Forms
-pub mod State
-pub mod Replies
+-- What has to be believed, in reading order. The first eight are of every server over batches of lines; the form that is
+-- answered today has a folder of its own. What only private contracts cite stands in `code`.
 pub mod Runs
-pub mod Answers
-pub mod Lines
+pub mod Batching
+pub mod Lanes
+pub mod Service
+pub mod Delivery
 pub mod Served
-pub mod Turn
 pub mod Codes
+pub mod first_form
+pub mod code

@@ -1,15 +1,22 @@
-//! The server: replies to the lines of a source, written to a sink.
+//! The server: replies to the lines of a source, written to a sink. The loop over batches of lines is generic in what a
+//! batch answers (`Batches`) and in what becomes of replies (`Delivers`); the form that is answered today stands in a
+//! module of its own.
 #![tactic(auto)]
 
-mod command;
-mod form;
-mod reply;
+mod batches;
+mod delivery;
+mod first_form;
+mod outcome;
+mod printing;
 mod run;
-mod server;
 #[cfg(test)]
 mod tests;
 mod top;
-mod words;
 
-pub use reply::{Body, Refusal, Reply};
-pub use top::{Status, serve};
+pub use batches::{Batches, Taken};
+pub use delivery::{Counting, Delivers};
+pub use first_form::{Body, FirstForm, Refusal, Reply};
+pub use outcome::Status;
+pub use printing::{Printed, Printing};
+pub use run::run_lines;
+pub use top::serve;

@@ -1,198 +1,132 @@
-//! The run of the server over a source and a sink: each line is answered, and its reply written, before the next is read.
-ghost use Rattle.std.specs.Prelude.{◌≡◌, ◌≢◌, ℕ, ◌+◌, ◌^◌, ◌<◌, ◌≤◌, List, [], ◌∷◌, length, false, Ok, Err, IfOk, IfErr, OnErr, OnOk, IsTrue, ◌↔◌, ◌⊎◌, Some, None, IfSome};
-ghost use Rattle.std.specs.Io.KnownBytes.{Appends, IsAtEnd};
-ghost use Rattle.vg_io.specs.declared.limits.TheConstants.{LINE_LIMIT, INPUT_LIMIT};
-ghost use Rattle.vg_io.specs.Outside.{Rose};
-ghost use Rattle.vg_io.specs.Lines.{LeavesNoLine, TakesBytes};
-ghost use Rattle.vg_io.specs.Reader.{IfLine, finish_of, most_reads, to_come};
-ghost use Rattle.server_shell.specs.Lines.{line_of};
-ghost use Rattle.server_shell.specs.Turn.{Answered, WritesFront, replies_in, TurnsOn, TurnsPartly, StopsAt};
-ghost use Rattle.server_shell.specs.Served.{ServesAll, ServesWhole, ServesFront, TakesOver, TakesAtMost};
-ghost use Rattle.server_shell.specs.Answers.{IsBlank};
+//! The run of a server over a source: lines are taken into batches, and each batch is answered, and its replies delivered,
+//! before the next line is read.
+ghost use Rattle.std.specs.Prelude.{◌≡◌, ◌≢◌, ℕ, ◌+◌, ◌^◌, ◌<◌, ◌≤◌, List, [], length, Ok, Err, IfOk, IfErr, OnOk};
+ghost use Rattle.vg_io.specs.declared.limits.TheConstants.{LINE_LIMIT};
+ghost use Rattle.vg_io.specs.Reader.{IfLine};
+ghost use Rattle.server_shell.specs.Service.{GoesOn};
+ghost use Rattle.server_shell.specs.Served.{Ran, outside};
+ghost use Rattle.server_shell.specs.code.Turning.{StopsBy, TakesNext, Finishes, Breaks, EndsRun, hold};
 
-use super::reply::{Reply, reply_text};
-use super::server::Server;
+use super::batches::{Batches, Taken};
+use super::delivery::Delivers;
+use super::outcome::Status;
 use std::alloc::Global;
-use vg_base::Memory;
-use vg_io::{Failed, LineReader, Next, Sink, Source, write_all};
+use vg_base::{Memory, Refused};
+use vg_io::{Failed, LineReader, Next, Source};
 
-/// Why a run ends.
+/// Why no line was taken.
 #[derive(Clone, Copy, Drop, Debug)]
-pub enum Stop {
-    Done,
-    ReadFault,
-    WriteFault,
-    Memory,
-    InputOver,
+enum Stop {
+    /// The end of input.
+    End,
+    /// The run ends, and the open batch stays unanswered.
+    Now(Status),
 }
 
-/// Only spaces, tabs and carriage returns.
-fn is_blank(line: &[u8]) -> bool
-    requires { length line.now ≤ LINE_LIMIT }
-    ensures { IsTrue result ↔ IsBlank line.now }
+/// What a call that took a line comes to.
+fn taken_or_memory(answer: Result<Taken, Memory>) -> Result<Taken, Stop>
+    ensures ok { IfOk result (λ taken. answer ≡ Ok taken) }
+    ensures err { IfErr result (λ stop. stop ≡ Stop.Now Status.Memory) }
 {
-    line.iter().all(|b| *b == 32 || *b == 9 || *b == 13)
-}
-
-/// Writes a text and flushes it.
-fn send<K: Sink>(sink: &mut K, text: &[u8]) -> Result<(), Failed>
-    ensures whole { OnOk result (Appends (K.written sink.old) (K.written sink.new) text.now) }
-    ensures front { OnErr result (WritesFront (K.written sink.old) (K.written sink.new) text.now) }
-    ensures cause { OnErr result (Rose (K.faults sink.old) (K.faults sink.new)) }
-    ensures never_falls { K.faults sink.old ≤ K.faults sink.new }
-{
-    match write_all(sink, text) {
-        Ok(()) => match sink.flush() {
-            Ok(()) => Ok(()),
-            Err(failed) => Err(failed),
-        },
-        Err(failed) => Err(failed),
+    match answer {
+        Ok(taken) => Ok(taken),
+        Err(Memory) => Err(Stop::Now(Status::Memory)),
     }
 }
 
-/// Writes the line of a reply and flushes it.
-fn write_reply<K: Sink>(alloc: Global, sink: &mut K, reply: &Reply) -> Result<(), Stop>
-    ensures whole { OnOk result (Appends (K.written sink.old) (K.written sink.new) (line_of reply.now)) }
-    ensures front { OnErr result (WritesFront (K.written sink.old) (K.written sink.new) (line_of reply.now)) }
-    ensures cause { IfErr result (λ stop. stop ≡ Stop.WriteFault → Rose (K.faults sink.old) (K.faults sink.new)) }
-    ensures only { IfErr result (λ stop. (stop ≡ Stop.WriteFault) ⊎ (stop ≡ Stop.Memory)) }
-    ensures never_falls { K.faults sink.old ≤ K.faults sink.new }
-{
-    match reply_text(alloc, reply) {
-        Err(Memory) => Err(Stop::Memory),
-        Ok(text) => match send(sink, text.as_bytes()) {
-            Ok(()) => Ok(()),
-            Err(Failed) => Err(Stop::WriteFault),
-        },
-    }
-}
-
-/// The reply to what the reader gave.
-fn reply_to(server: &mut Server, number: u64, next: Next) -> Result<Option<Reply>, Stop>
+/// Takes what the reader gave into the open batch; Err where it is no line, or where memory is short.
+fn take_next<B: Batches>(batches: &mut B, number: u64, next: Next) -> Result<Taken, Stop>
+    requires open { GoesOn B.service (B.kept batches.old) }
     requires within { IfLine next (λ line. length line ≤ LINE_LIMIT) }
-    requires version { server.old.version < 2 ^ 63 }
-    ensures version { server.new.version ≤ server.old.version + 1 }
-    ensures line { IfOk result (λ r. IfLine next (λ line. Answered server.old number line (replies_in r) server.new)) }
-    ensures long { IfOk result (λ r. next ≡ Next.Long → (line : List ℕ) → LINE_LIMIT < length line → Answered server.old number line (replies_in r) server.new) }
-    ensures goes_on { OnOk result (finish_of next ≡ None) }
-    ensures stops { IfErr result (λ stop. StopsAt next stop) }
+    requires later { B.last batches.old < number }
+    requires few { number < 2 ^ 63 }
+    ensures takes { IfOk result
+        (TakesNext B.service (B.kept batches.old) (B.kept batches.new) number next) }
+    ensures last { OnOk result (B.last batches.new ≡ number) }
+    ensures stops { IfErr result (StopsBy next) }
+    ensures idle { result ≡ Err Stop.End → batches.new ≡ batches.old }
 {
     match next {
-        Next::Line(line) => answer_line(server, number, &line),
-        Next::Long => Ok(Some(Reply {
-            line: number,
-            body: server.answer_long(),
-        })),
-        Next::End => Err(Stop::Done),
-        Next::ReadFault => Err(Stop::ReadFault),
-        Next::InputOver => Err(Stop::InputOver),
-        Next::Memory => Err(Stop::Memory),
+        Next::Line(line) => taken_or_memory(batches.take(number, &line)),
+        Next::Long => taken_or_memory(batches.take_long(number)),
+        Next::End => Err(Stop::End),
+        Next::ReadFault => Err(Stop::Now(Status::ReadFault)),
+        Next::InputOver => Err(Stop::Now(Status::InputOver)),
+        Next::Memory => Err(Stop::Now(Status::Memory)),
     }
 }
 
-/// The reply to a line within the limit.
-fn answer_line(server: &mut Server, number: u64, line: &[u8]) -> Result<Option<Reply>, Stop>
-    requires within { length line.now ≤ LINE_LIMIT }
-    requires version { server.old.version < 2 ^ 63 }
-    ensures version { server.new.version ≤ server.old.version + 1 }
-    ensures ok { IfOk result (λ r. Answered server.old number line.now (replies_in r) server.new) }
-    ensures err { IfErr result (λ stop. stop ≡ Stop.Memory) }
+/// Answers the open batch and delivers its replies.
+fn run_batch<B: Batches, D: Delivers<B::Reply, O>, O>(
+    batches: &mut B,
+    delivers: &D,
+    out: &mut O,
+) -> Result<(), Status>
+    ensures whole { OnOk result (Finishes B.service D.delivery
+        (hold (B.kept batches.old) out.old) (hold (B.kept batches.new) out.new)) }
+    ensures last { OnOk result (B.last batches.new ≡ B.last batches.old) }
+    ensures cut { IfErr result (Breaks B.service D.delivery
+        (hold (B.kept batches.old) out.old) (hold (B.kept batches.new) out.new)) }
 {
-    if is_blank(line) {
-        return Ok(None);
-    }
-    match server.answer(line) {
-        Ok(body) => Ok(Some(Reply { line: number, body })),
-        Err(Memory) => Err(Stop::Memory),
+    let replies = match batches.run() {
+        Ok(replies) => replies,
+        Err(Memory) => return Err(Status::Memory),
+    };
+    match delivers.deliver(out, &replies) {
+        Ok(()) => Ok(()),
+        Err(Refused::Fault(Failed)) => Err(Status::WriteFault),
+        Err(Refused::Memory) => Err(Status::Memory),
     }
 }
 
-/// Answers the next line, and says why the run ends where there is none.
-fn turn<S: Source, K: Sink>(
+/// Answers the open batch at the end of input.
+fn run_last<B: Batches, D: Delivers<B::Reply, O>, O>(
+    batches: &mut B,
+    delivers: &D,
+    out: &mut O,
+) -> Status
+    ensures { EndsRun B.service D.delivery
+        (hold (B.kept batches.old) out.old) (hold (B.kept batches.new) out.new) result }
+{
+    if batches.is_empty() {
+        return Status::Done;
+    }
+    match run_batch(batches, delivers, out) {
+        Ok(()) => Status::Done,
+        Err(stop) => stop,
+    }
+}
+
+/// Runs a server over the source to its end: the lines of an open batch are answered there, and stay unanswered where
+/// the source fails or its input is too long.
+pub fn run_lines<B: Batches, D: Delivers<B::Reply, O>, S: Source, O>(
     alloc: Global,
-    reader: &mut LineReader,
-    server: &mut Server,
-    number: u64,
+    batches: &mut B,
+    delivers: &D,
     source: &mut S,
-    sink: &mut K,
-) -> Result<(), Stop>
-    requires open { reader.old.finished ≡ None }
-    requires version { server.old.version < 2 ^ 63 }
-
-    // A line was answered, and its reply written.
-    ensures more { OnOk result (TurnsOn (to_come reader.old (S.left source.old)) (to_come reader.new (S.left source.new)) reader.new.ended
-        server.old server.new number (K.written sink.old) (K.written sink.new)) }
-    ensures stays_open { OnOk result (reader.new.finished ≡ None) }
-    ensures falls { OnOk result (length reader.new.held + reader.old.taken < length reader.old.held + reader.new.taken) }
-    ensures version { server.new.version ≤ server.old.version + 1 }
-
-    // There is no further line.
-    ensures done { result ≡ Err Stop.Done → IsTrue reader.new.ended }
-    ensures done_bytes { result ≡ Err Stop.Done → IsAtEnd (to_come reader.old (S.left source.old)) ⊎ IsTrue reader.old.ended }
-    ensures read_fault { result ≡ Err Stop.ReadFault → Rose (S.faults source.old) (S.faults source.new) }
-    ensures read_fault_rest { result ≡ Err Stop.ReadFault → LeavesNoLine (to_come reader.old (S.left source.old)) (S.left source.new) }
-    ensures input_over { result ≡ Err Stop.InputOver → INPUT_LIMIT < reader.new.taken }
-    ensures input_over_rest { result ≡ Err Stop.InputOver → LeavesNoLine (to_come reader.old (S.left source.old)) (S.left source.new) }
-    ensures over_only { INPUT_LIMIT < reader.new.taken → (result ≢ Err Stop.Done) × (result ≢ Err Stop.ReadFault) }
-    ensures not_ended { (result ≡ Err Stop.ReadFault) ⊎ (result ≡ Err Stop.InputOver) → reader.new.ended ≡ false }
-    ensures idle { (result ≡ Err Stop.Done) ⊎ ((result ≡ Err Stop.ReadFault) ⊎ (result ≡ Err Stop.InputOver)) → sink.new ≡ sink.old }
-
-    // A line was answered, and its reply not written, or in part.
-    ensures write_fault { result ≡ Err Stop.WriteFault → Rose (K.faults sink.old) (K.faults sink.new) }
-    ensures write_fault_wrote { result ≡ Err Stop.WriteFault → TurnsPartly (to_come reader.old (S.left source.old)) (to_come reader.new (S.left source.new)) reader.new.ended
-        server.old server.new number (K.written sink.old) (K.written sink.new) }
-    ensures memory { result ≡ Err Stop.Memory → (sink.new ≡ sink.old)
-        ⊎ TurnsPartly (to_come reader.old (S.left source.old)) (to_come reader.new (S.left source.new)) reader.new.ended
-        server.old server.new number (K.written sink.old) (K.written sink.new) }
-
-    // The end of input, for the reader and for the source.
-    ensures end_stays { IsTrue reader.old.ended → (result ≡ Err Stop.Done) × (source.new ≡ source.old) }
-    ensures ended_source { IsTrue reader.new.ended → IsTrue reader.old.ended ⊎ IsTrue (S.ended source.new) }
-    ensures source_ended { IsTrue (S.ended source.new) → IsTrue (S.ended source.old) ⊎ IsTrue reader.new.ended }
-
-    // Counts.
-    ensures takes { TakesBytes (S.left source.old) (S.left source.new) reader.old.taken reader.new.taken }
-    ensures taken { reader.new.taken ≤ INPUT_LIMIT + 1 }
-    ensures source_later { S.faults source.old ≤ S.faults source.new }
-    ensures sink_later { K.faults sink.old ≤ K.faults sink.new }
-    ensures reads { S.reads source.new + most_reads reader.old ≤ S.reads source.old + most_reads reader.new }
+    out: &mut O,
+) -> Status
+    requires start { B.kept batches.old ≡ record { stands = B.service.start; pending = [] } }
+    requires none { B.last batches.old ≡ 0 }
+    ensures ran { Ran B.service D.delivery
+        (outside (S.told source.old) out.old) (outside (S.told source.new) out.new) result }
+    ensures in_form { result ≢ Status.Usage }
 {
-    let next = reader.next(source);
-    match reply_to(server, number, next) {
-        Err(stop) => Err(stop),
-        Ok(None) => Ok(()),
-        Ok(Some(reply)) => write_reply(alloc, sink, &reply),
-    }
-}
-
-/// Answers the lines of the source, one after another.
-pub fn run_lines<S: Source, K: Sink>(
-    alloc: Global,
-    reader: &mut LineReader,
-    source: &mut S,
-    sink: &mut K,
-) -> Stop
-    requires { reader.old ≡ record { held = []; taken = 0; ended = false; finished = None } }
-    ensures done { result ≡ Stop.Done → IsTrue (S.ended source.new) }
-    ensures done_wrote { result ≡ Stop.Done → ServesAll (S.left source.old) (S.left source.new) (K.written sink.old) (K.written sink.new) }
-    ensures read_fault { result ≡ Stop.ReadFault → Rose (S.faults source.old) (S.faults source.new) }
-    ensures read_fault_wrote { result ≡ Stop.ReadFault → ServesWhole (S.left source.old) (S.left source.new) (K.written sink.old) (K.written sink.new) }
-    ensures input_over { result ≡ Stop.InputOver → IfSome (S.left source.old) (λ _. TakesOver (S.left source.old) (S.left source.new)) }
-    ensures input_over_wrote { result ≡ Stop.InputOver → ServesWhole (S.left source.old) (S.left source.new) (K.written sink.old) (K.written sink.new) }
-    ensures over_only { TakesOver (S.left source.old) (S.left source.new) → (result ≢ Stop.Done) × (result ≢ Stop.ReadFault) }
-    ensures not_ended { (result ≡ Stop.ReadFault) ⊎ (result ≡ Stop.InputOver) → IsTrue (S.ended source.new) → IsTrue (S.ended source.old) }
-    ensures write_fault { result ≡ Stop.WriteFault → Rose (K.faults sink.old) (K.faults sink.new) }
-    ensures write_fault_wrote { result ≡ Stop.WriteFault → ServesFront (S.left source.old) (S.left source.new) (S.ended source.new) (K.written sink.old) (K.written sink.new) }
-    ensures memory_wrote { result ≡ Stop.Memory → ServesFront (S.left source.old) (S.left source.new) (S.ended source.new) (K.written sink.old) (K.written sink.new) }
-    ensures bound { TakesAtMost (S.left source.old) (S.left source.new) }
-    ensures reads { S.reads source.new ≤ S.reads source.old + 1073741826 }
-{
-    let mut server = Server::new(alloc);
+    let mut reader = match LineReader::open(alloc) {
+        Ok(reader) => reader,
+        Err(Memory) => return Status::Memory,
+    };
     let mut number: u64 = 1;
     loop {
-        match turn(alloc, reader, &mut server, number, source, sink) {
-            Ok(()) => number += 1,
-            Err(stop) => return stop,
+        let next = reader.next(source);
+        match take_next(batches, number, next) {
+            Ok(Taken::More) => number += 1,
+            Ok(Taken::Full) => match run_batch(batches, delivers, out) {
+                Ok(()) => number += 1,
+                Err(stop) => return stop,
+            },
+            Err(Stop::End) => return run_last(batches, delivers, out),
+            Err(Stop::Now(ending)) => return ending,
         }
     }
 }

@@ -1,5 +1,8 @@
-//! The server over memory: whole dialogues, and sources and sinks that fail.
-use super::{Status, serve};
+//! The server over memory: whole dialogues, sources and sinks that fail, and what was shown.
+mod notes;
+mod watched;
+
+use crate::{Status, serve};
 use std::alloc::{AllocError, Global};
 use std::sync::Wait;
 use std::test::Fail;
@@ -38,6 +41,7 @@ fn joined(alloc: Global, parts: &[&[u8]]) -> Result<Vec<u8>, AllocError> {
 struct Outcome {
     status: Status,
     written: Vec<u8>,
+    shown: bool,
 }
 
 /// Runs `serve` with so many words; the first read gives at most `piece` bytes, as each later one does.
@@ -65,6 +69,7 @@ fn run<R: Threads + Wait + Sync>(
     Ok(Outcome {
         status,
         written: Vec::from_slice(alloc, sink.bytes())?,
+        shown: sink.shown().len() == sink.bytes().len(),
     })
 }
 
@@ -142,6 +147,7 @@ fn tells_faults_of_source_and_sink(rt: HostRuntime) -> Result<(), Fail> {
     let source = run(&rt, alloc, 1, &input, 1, head.len() as u64, 1000)?;
     assert_eq!(rt; source.status, Status::ReadFault);
     assert!(rt; source.written.as_slice() == replies.as_slice());
+    assert!(rt; source.shown);
     let sink = run(&rt, alloc, 1, &input, 1000, NEVER, 10)?;
     assert_eq!(rt; sink.status, Status::WriteFault);
     assert!(rt; sink.written.as_slice() == b"{\"line\":1,".as_slice());

@@ -2,20 +2,22 @@
 use Rattle.std.proofs.Common.{◌≡◌, ℕ, ◌+◌, ◌<◌, ◌≤◌, Bool, true, false, List, [], ◌∷◌, ◌++◌, None, Some, length, refl, sym, ap, ◌∙◌, subst, append_assoc, append-nil, arith, length-append, ◌≢◌, inl, inr}
 use Rattle.std.specs.declared.option.Option.{Option}
 use Rattle.std.specs.Io.KnownBytes.{Consumes, IsAtEnd, Keeps, prepend_known}
-use Rattle.std.proofs.KnownBytes.{Consumes-trans, Consumes-kept, Consumes-nil}
+use Rattle.std.proofs.KnownBytes.{Consumes-trans}
 use Rattle.std.proofs.lemmas.List.Elements.{All-append}
 use Rattle.std.proofs.lemmas.List.{nil_from_length}
-use Rattle.vg_io.specs.Lines.{lines_of, HasNoFeed, GivesLine, LeavesNoLine, TakesBytes, BeginsLong, IsKnownEmpty}
+use Rattle.vg_io.specs.Lines.{lines_of, HasNoFeed, GivesLine, LeavesNoLine, BeginsLong, IsKnownEmpty}
 use Rattle.vg_io.proofs.Cutting.{lines_of-line, lines_of-last, lines_of-nil}
-use Rattle.vg_io.specs.Reader.{GathersIn, Moves, InLine, Ends}
+use Rattle.vg_io.specs.code.Gathering.{GathersIn, Moves, InLine, Ends, Taking, taking, ahead}
 use Rattle.vg_io.specs.declared.gathered.Gathered.{Gathered}
 
--- a part moves from what is held to what was gathered
-pub Consumes-part : (a left : Option (List ℕ)) (held held' front part : List ℕ) → Consumes a (prepend_known held left) front → held ≡ part ++ held' → Consumes a (prepend_known held' left) (front ++ part)
-Consumes-part None left held held' front part p e = tt
-Consumes-part (Some xs) None held held' front part p e = absurd p
-Consumes-part (Some xs) (Some ys) held held' front part p e =
-    p ∙ ap (λ l. front ++ (l ++ ys)) e ∙ ap (λ l. front ++ l) (append_assoc part held' ys) ∙ sym (append_assoc front part (held' ++ ys))
+-- all that is held moves to what was gathered
+pub Consumes-moved : (a : Option (List ℕ)) (now : Taking) (front : List ℕ) → Consumes a (ahead now) front → Consumes a (prepend_known [] now.left) (front ++ now.held)
+Consumes-moved None now front p = tt
+Consumes-moved (Some xs) now front p = moved now.left p
+  where
+    moved : (left : Option (List ℕ)) → Consumes (Some xs) (prepend_known now.held left) front → Consumes (Some xs) (prepend_known [] left) (front ++ now.held)
+    moved None p = absurd p
+    moved (Some ys) p = p ∙ sym (append_assoc front now.held ys)
 
 -- a read into what is held, which was empty
 pub Consumes-filled : (a b c : Option (List ℕ)) (held front : List ℕ) → Consumes a (prepend_known [] b) front → Consumes b c held → Consumes a (prepend_known held c) front
@@ -23,15 +25,6 @@ Consumes-filled None b c held front p q = tt
 Consumes-filled (Some xs) None c held front p q = absurd p
 Consumes-filled (Some xs) (Some ys) None held front p q = absurd q
 Consumes-filled (Some xs) (Some ys) (Some zs) held front p q = p ∙ ap (λ l. front ++ l) q
-
-pub TakesBytes-none : (a : Option (List ℕ)) (s : ℕ) → TakesBytes a a s s
-TakesBytes-none a s = ([], Consumes-nil a, omega arith)
-
-pub TakesBytes-read : (a b c : Option (List ℕ)) (held : List ℕ) (s t : ℕ) → TakesBytes a b s t → Consumes b c held → TakesBytes a c s (t + length held)
-TakesBytes-read a b c held s t (bytes, p, n) q = (bytes ++ held, Consumes-trans a b c bytes held p q, omega (arith, length-append bytes held))
-
-pub TakesBytes-kept : (a b c : Option (List ℕ)) (s t : ℕ) → TakesBytes a b s t → Keeps b c → TakesBytes a c s t
-TakesBytes-kept a b c s t (bytes, p, n) q = (bytes, Consumes-kept a b c bytes p q, n)
 
 pub LeavesNoLine-from : (a left : Option (List ℕ)) (front : List ℕ) → HasNoFeed front → Consumes a (prepend_known [] left) front → LeavesNoLine a left
 LeavesNoLine-from None left front n p = tt
@@ -44,51 +37,44 @@ LeavesNoLine-kept (Some xs) None c p q = absurd p
 LeavesNoLine-kept (Some xs) (Some ys) None p q = absurd q
 LeavesNoLine-kept (Some xs) (Some ys) (Some zs) p q = (p.0, p.1, p.2 ∙ ap (λ l. p.0 ++ l) (sym q))
 
-module _ (limit : ℕ) (a b : Option (List ℕ)) (h0 h h' : List ℕ) (s t : ℕ) (line line' : Gathered) where
-  -- all that is held was moved
-  pub InLine-moved : InLine limit a b h0 h s t line → Moves limit false h h' line line' → InLine limit a b h0 [] s t line'
-  InLine-moved i m = record {
-    front = i.front ++ h;
-    no_feed = All-append (λ b. b ≢ 10) i.front h i.no_feed m.0;
-    gathers = m.2 i.front i.gathers;
-    consumed = Consumes-part _ b h [] i.front h i.consumed (sym (append-nil h));
-    counts = i.counts;
-    moved = omega (arith, i.moved, length-append i.front h);
-  }
-
-  -- the line's end was moved
-  pub Ends-fed : InLine limit a b h0 h s t line → Moves limit true h h' line line' → Ends limit true a b h0 h' s t line'
-  Ends-fed i m = record {
-    front = i.front ++ m.0;
-    no_feed = All-append (λ b. b ≢ 10) i.front m.0 i.no_feed m.1;
-    gathers = m.3 i.front i.gathers;
-    consumed = subst (Consumes _ _) (sym (append_assoc i.front m.0 (10 ∷ []))) (Consumes-part _ b h h' i.front (m.0 ++ 10 ∷ []) i.consumed (m.2 ∙ sym (append_assoc m.0 (10 ∷ []) h')));
-    at_end = λ e. absurd (cc);
-    moved = omega (arith, i.moved, ap length m.2, length-append m.0 (10 ∷ h'));
-  }
+-- all that is held was moved
+pub InLine-moved : {limit : ℕ} {old now : Taking} {line : Gathered} (line' : Gathered) (held : List ℕ) → InLine limit old now line → Moves limit false now.held held line line' → InLine limit old (taking [] now.taken now.left) line'
+InLine-moved {now = now} line' held i m = record {
+  front = i.front ++ now.held;
+  no_feed = All-append (λ b. b ≢ 10) i.front now.held i.no_feed m.0;
+  gathers = m.2 i.front i.gathers;
+  consumed = Consumes-moved _ now i.front i.consumed;
+  counts = i.counts;
+  moved = omega (arith, i.moved, length-append i.front now.held);
+}
 
 -- a read went into what is held
-pub InLine-filled : (limit : ℕ) (a b c : Option (List ℕ)) (h0 h : List ℕ) (s t : ℕ) (line : Gathered) → InLine limit a b h0 [] s t line → Consumes b c h → InLine limit a c h0 h s (t + length h) line
-InLine-filled limit a b c h0 h s t line i q = record {
+pub InLine-filled : {limit : ℕ} {old : Taking} {line : Gathered} (taken : ℕ) (b c : Option (List ℕ)) (held : List ℕ) → InLine limit old (taking [] taken b) line → Consumes b c held → InLine limit old (taking held (taken + length held) c) line
+InLine-filled {old = old} taken b c held i q = record {
   front = i.front;
   no_feed = i.no_feed;
   gathers = i.gathers;
-  consumed = Consumes-filled _ b c h i.front i.consumed q;
-  counts = TakesBytes-read a b c h s t i.counts q;
+  consumed = Consumes-filled _ b c held i.front i.consumed q;
+  counts = (i.counts.0 ++ held, Consumes-trans old.left b c i.counts.0 held i.counts.1 q, omega (arith, i.counts.2, length-append i.counts.0 held));
   moved = omega (arith, i.moved);
 }
 
--- the bytes ended in the middle of a line
-pub Ends-last : (limit : ℕ) (a b c : Option (List ℕ)) (h0 h : List ℕ) (s t : ℕ) (line : Gathered) → InLine limit a b h0 [] s t line → Consumes b c h → length h ≡ 0 → IsAtEnd c
-    → ((front : List ℕ) → GathersIn limit front line → 0 < length front) → Ends limit false a c h0 h s t line
-Ends-last limit a b c h0 h s t line i q none end some =
+-- what stands where the bytes ended in the middle of a line: a read gave none
+pub record Ended (b c : Option (List ℕ)) (held : List ℕ) : Type 0 where
+  pub read : Consumes b c held
+  pub none : length held ≡ 0
+  pub end : IsAtEnd c
+
+pub Ends-last : {limit : ℕ} {old : Taking} {line : Gathered} (taken : ℕ) (b c : Option (List ℕ)) (held : List ℕ) → InLine limit old (taking [] taken b) line → Ended b c held
+    → ((front : List ℕ) → GathersIn limit front line → 0 < length front) → Ends limit false old (taking held taken c) line
+Ends-last taken b c held i e some =
     record {
       front = i.front;
       no_feed = i.no_feed;
       gathers = i.gathers;
-      consumed = subst (Consumes _ _) (sym (append-nil i.front)) (Consumes-filled _ b c h i.front i.consumed q);
-      at_end = λ _. (nil_from_length h none, end, some i.front i.gathers);
-      moved = omega (arith, i.moved);
+      consumed = subst (Consumes _ _) (sym (append-nil i.front)) (Consumes-filled _ b c held i.front i.consumed e.read);
+      at_end = λ _. (nil_from_length held e.none, e.end, some i.front i.gathers);
+      moved = let none = e.none in omega (arith, i.moved);
     }
 
 GivesLine-fed : (a b : Option (List ℕ)) (front : List ℕ) → HasNoFeed front → Consumes a b (front ++ 10 ∷ []) → GivesLine a b false front
@@ -111,13 +97,14 @@ IsAtEnd-held held None h e = tt
 IsAtEnd-held held (Some xs) h e = ap (λ l. l ++ xs) h ∙ e
 
 -- what ended is the next line
-pub GivesLine-ends_fed : (limit : ℕ) (a b : Option (List ℕ)) (h0 h : List ℕ) (s t : ℕ) (line : Gathered) → (e : Ends limit true a b h0 h s t line) → GivesLine (prepend_known h0 a) (prepend_known h b) false e.front
-GivesLine-ends_fed limit a b h0 h s t line e = GivesLine-fed _ _ e.front e.no_feed e.consumed
+pub GivesLine-ends_fed : {limit : ℕ} {old now : Taking} {line : Gathered} (e : Ends limit true old now line) (ended : Bool) → ended ≡ false → GivesLine (ahead old) (ahead now) ended e.front
+GivesLine-ends_fed {old = old} {now = now} e ended not =
+    subst (λ f. GivesLine (ahead old) (ahead now) f e.front) (sym not) (GivesLine-fed _ _ e.front e.no_feed e.consumed)
 
-pub GivesLine-ends_last : (limit : ℕ) (a b : Option (List ℕ)) (h0 h : List ℕ) (s t : ℕ) (line : Gathered) → (e : Ends limit false a b h0 h s t line) → GivesLine (prepend_known h0 a) (prepend_known h b) true e.front
-GivesLine-ends_last limit a b h0 h s t line e =
+pub GivesLine-ends_last : {limit : ℕ} {old now : Taking} {line : Gathered} (e : Ends limit false old now line) → GivesLine (ahead old) (ahead now) true e.front
+GivesLine-ends_last {now = now} e =
     let end = e.at_end refl in
-    GivesLine-last _ _ e.front e.no_feed e.consumed (IsAtEnd-held h b end.0 end.1) end.2
+    GivesLine-last _ _ e.front e.no_feed e.consumed (IsAtEnd-held now.held now.left end.0 end.1) end.2
 
 -- two readings of which line is first agree
 same_first : (line line' : List ℕ) (rest rest' : List (List ℕ)) → line ∷ rest ≡ line' ∷ rest' → length line ≡ length line'

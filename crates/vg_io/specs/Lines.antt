@@ -25,8 +25,8 @@ whole_lines_of (b ∷ bs) =
 abbrev pub HasNoFeed : List ℕ → Type 0
 HasNoFeed bytes = All (λ b. b ≢ 10) bytes
 
--- This line is the first of the bytes' lines, and the rest has the others. The rest stands behind the
--- line's feed; where the end of input was met, the line is all of the bytes and has no feed.
+-- This line is the first of the bytes' lines, and the rest has the others. The rest stands behind
+-- the line's feed; where the end of input was met, the line is all of the bytes and has no feed.
 pub record BeginsWithLine (bytes line rest : List ℕ) (ended : Bool) : Type 0 where
   pub first : lines_of bytes ≡ line ∷ lines_of rest
   pub no_feed : HasNoFeed line
@@ -43,7 +43,8 @@ GivesLine (Some bytes) (Some rest) ended line = BeginsWithLine bytes line rest e
 abbrev pub BeginsLong : ℕ → Option (List ℕ) → Type 0
 BeginsLong limit None = ⊥
 BeginsLong limit (Some bytes) =
-    (line : List ℕ) × (others : List (List ℕ)) × (lines_of bytes ≡ line ∷ others) × (limit < length line)
+    (line : List ℕ) × (others : List (List ℕ)) × (lines_of bytes ≡ line ∷ others)
+    × (limit < length line)
 
 -- bytes are told, and there are none
 abbrev pub IsKnownEmpty : Option (List ℕ) → Type 0

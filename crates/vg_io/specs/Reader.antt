@@ -1,38 +1,48 @@
--- What contracts see of a reader of lines.
-use Rattle.std.specs.Prelude.{◌≡◌, ℕ, ◌+◌, ◌<◌, ◌≤◌, ◌↔◌, Bool, true, false, ◌||◌, List, [], ◌∷◌, ◌++◌, length, take, drop, if◌then◌else◌, None, Some, IsSome, IsTrue, is_some}
+-- What a reader of lines and its source are, and what the reader's next answer does.
+use Rattle.std.specs.Prelude.{◌≡◌, ◌≢◌, ℕ, ◌+◌, ◌<◌, ◌≤◌, ◌↔◌, Bool, true, false, ◌||◌, ◌⊎◌, List, [], length, if◌then◌else◌, None, Some, IsSome, IsTrue, is_some}
 use Rattle.std.specs.declared.option.Option.{Option}
-use Rattle.std.specs.Io.KnownBytes.{Consumes, IsAtEnd, prepend_known}
+use Rattle.std.specs.Io.KnownBytes.{IsAtEnd, prepend_known}
+use Rattle.vg_io.specs.declared.limits.TheConstants.{LINE_LIMIT, INPUT_LIMIT}
 use Rattle.vg_io.specs.declared.lines.Finish.{Finish}
 use Rattle.vg_io.specs.declared.lines.Finish.TheVariants as finish
 use Rattle.vg_io.specs.declared.lines.Next.{Next}
 use Rattle.vg_io.specs.declared.lines.Next.TheVariants as next
-use Rattle.vg_io.specs.declared.gathered.Gathered.{Gathered}
-use Rattle.vg_io.specs.Lines.{HasNoFeed, TakesBytes}
+use Rattle.vg_io.specs.Faults.{faults_after}
+use Rattle.vg_io.specs.Sources.{ToldSource}
+use Rattle.vg_io.specs.Lines.{GivesLine, LeavesNoLine, TakesBytes, BeginsLong, IsKnownEmpty}
 
--- The bytes that were taken and not given, how many were taken in all, whether a read of this reader
--- met the end of input, and the answer that is given from now on.
+-- The bytes that were taken and not given, how many were taken in all, whether a read of this
+-- reader met the end of input, and the answer that is given from now on.
 pub record Reading : Type 0 where
   pub held : List ℕ
   pub taken : ℕ
   pub ended : Bool
   pub finished : Option Finish
 
--- what is still to come as lines: the bytes that are held, and those that are left
-abbrev pub to_come : Reading → Option (List ℕ) → Option (List ℕ)
-to_come r left = prepend_known r.held left
+-- what holds of every reader
+pub record IsStanding (limit : ℕ) (reader : Reading) : Type 0 where
+  pub few : reader.taken ≤ limit + 1
+  pub end : IsTrue reader.ended → (reader.held ≡ []) × (reader.taken ≤ limit)
+  pub stopped : IsSome reader.finished
+      → (IsTrue reader.ended ↔ (reader.finished ≡ Some finish.End))
+  pub fault : reader.finished ≡ Some finish.ReadFault → reader.taken ≤ limit
+  pub over : reader.finished ≡ Some finish.InputOver → limit < reader.taken
 
 -- An upper count of a reader's reads: each takes a byte, but one that meets the end or fails.
 abbrev pub most_reads : Reading → ℕ
 most_reads r = r.taken + (if r.ended || is_some r.finished then 1 else 0)
 
--- what holds of every reader
-pub record IsStanding (limit : ℕ) (held : List ℕ) (taken : ℕ) (ended : Bool)
-    (finished : Option Finish) : Type 0 where
-  pub few : taken ≤ limit + 1
-  pub end : IsTrue ended → (held ≡ []) × (taken ≤ limit)
-  pub stopped : IsSome finished → (IsTrue ended ↔ (finished ≡ Some finish.End))
-  pub fault : finished ≡ Some finish.ReadFault → taken ≤ limit
-  pub over : finished ≡ Some finish.InputOver → limit < taken
+-- A reader, and what the source tells that it reads.
+pub record Intake : Type 0 where
+  pub reader : Reading
+  pub source : ToldSource
+
+abbrev pub reading_from : Reading → ToldSource → Intake
+reading_from reader source = record { reader = reader; source = source }
+
+-- what is still to come as lines: the bytes that are held, and those that are left
+abbrev pub to_come : Intake → Option (List ℕ)
+to_come intake = prepend_known intake.reader.held intake.source.left
 
 -- the answer that stays
 abbrev pub finish_of : Next → Option Finish
@@ -52,51 +62,77 @@ IfLine next.ReadFault P = Unit {0}
 IfLine next.InputOver P = Unit {0}
 IfLine next.Memory P = Unit {0}
 
--- a line's bytes so far, or that they are past the limit
-pub record Gathers (limit : ℕ) (front bytes : List ℕ) (long : Bool) : Type 0 where
-  pub kept : long ≡ false → (bytes ≡ front) × (length front ≤ limit)
-  pub past : long ≡ true → limit < length front
+abbrev pub is_read_fault : Next → Bool
+is_read_fault (next.Line _) = false
+is_read_fault next.Long = false
+is_read_fault next.End = false
+is_read_fault next.ReadFault = true
+is_read_fault next.InputOver = false
+is_read_fault next.Memory = false
 
-abbrev pub GathersIn : ℕ → List ℕ → Gathered → Type 0
-GathersIn limit front line = Gathers limit front line.bytes.items line.is_long
+-- a reader that has met no end, and has no answer that stays
+abbrev pub IsOpen : Reading → Type 0
+IsOpen reader = (reader.finished ≡ None) × (reader.ended ≡ false)
 
--- whatever was gathered, this part is gathered behind it
-abbrev pub Adds : ℕ → List ℕ → Gathered → Gathered → Type 0
-Adds limit part old new =
-    (front : List ℕ) → GathersIn limit front old → GathersIn limit (front ++ part) new
+-- this line is the next of those that are to come
+abbrev pub GivesNext : Intake → Intake → List ℕ → Type 0
+GivesNext old new line = GivesLine (to_come old) (to_come new) new.reader.ended line
 
--- Bytes were gathered: all of them, which have no line feed, or those before the first line feed.
-abbrev pub MovesPart : ℕ → List ℕ → Option ℕ → Gathered → Gathered → Type 0
-MovesPart limit bytes None old new = HasNoFeed bytes × Adds limit bytes old new
-MovesPart limit bytes (Some n) old new =
-    (n < length bytes) × HasNoFeed (take n bytes) × (bytes ≡ take n bytes ++ 10 ∷ drop (n + 1) bytes)
-    × Adds limit (take n bytes) old new
+-- A line is the first of those that are to come, within the limit or past it.
+pub record AnswersLine (old new : Intake) (result : Next) : Type 0 where
+  pub line : IfLine result (λ line. (length line ≤ LINE_LIMIT) × GivesNext old new line)
+  pub long : result ≡ next.Long
+      → (line : List ℕ) × (LINE_LIMIT < length line) × GivesNext old new line
+  -- at a line past the limit no line is given, and no end
+  pub long_only : IsOpen old.reader → BeginsLong LINE_LIMIT (to_come old)
+      → IfLine result (λ _. ⊥) × (result ≢ next.End)
+  -- where no byte is left no line is given
+  pub none_only : old.reader.finished ≡ None → IsKnownEmpty (to_come old)
+      → IsSome (finish_of result)
 
--- A line's end was moved from what is held, with its line feed; or all that is held, which has no
--- line feed.
-abbrev pub Moves : ℕ → Bool → List ℕ → List ℕ → Gathered → Gathered → Type 0
-Moves limit true held_old held_new old new =
-    (part : List ℕ) × HasNoFeed part × (held_old ≡ part ++ 10 ∷ held_new) × Adds limit part old new
-Moves limit false held_old held_new old new =
-    HasNoFeed held_old × (held_new ≡ []) × Adds limit held_old old new
+-- the reader met the end of input between these two
+abbrev pub MeetsEnd : Reading → Reading → Type 0
+MeetsEnd old new = (old.ended ≡ false) × IsTrue new.ended
 
--- In the middle of a line: what was gathered is the front of what there was, and the counts agree.
-pub record InLine (limit : ℕ) (left_old left_new : Option (List ℕ)) (held_old held_new : List ℕ)
-    (taken_old taken_new : ℕ) (line : Gathered) : Type 0 where
-  pub front : List ℕ
-  pub no_feed : HasNoFeed front
-  pub gathers : GathersIn limit front line
-  pub consumed : Consumes (prepend_known held_old left_old) (prepend_known held_new left_new) front
-  pub counts : TakesBytes left_old left_new taken_old taken_new
-  pub moved : length front + length held_new + taken_old ≡ length held_old + taken_new
+-- The end of input, for the reader and for its source.
+pub record AnswersEnd (old new : Intake) (result : Next) : Type 0 where
+  -- the source answers it where the reader meets it, and nowhere else
+  pub together : IsTrue new.source.ended
+      ↔ (IsTrue old.source.ended ⊎ MeetsEnd old.reader new.reader)
+  -- nothing is to come where the reader met it
+  pub bytes : IsTrue new.reader.ended → IsTrue old.reader.ended ⊎ IsAtEnd (to_come new)
+  -- End is answered only there, or where it was met behind the last line
+  pub cause : old.reader.finished ≡ None → result ≡ next.End
+      → IsAtEnd (to_come old) ⊎ IsTrue old.reader.ended
+  -- of the answers that stay, it is End exactly where the reader met it
+  pub answer : IsSome (finish_of result) → (IsTrue new.reader.ended ↔ (result ≡ next.End))
+  pub stays : IsTrue old.reader.ended → result ≡ next.End
 
--- A line ended, at its line feed, or at the end of the bytes with no line feed.
-pub record Ends (limit : ℕ) (fed : Bool) (left_old left_new : Option (List ℕ))
-    (held_old held_new : List ℕ) (taken_old taken_new : ℕ) (line : Gathered) : Type 0 where
-  pub front : List ℕ
-  pub no_feed : HasNoFeed front
-  pub gathers : GathersIn limit front line
-  pub consumed : Consumes (prepend_known held_old left_old) (prepend_known held_new left_new)
-      (front ++ (if fed then 10 ∷ [] else []))
-  pub at_end : fed ≡ false → (held_new ≡ []) × IsAtEnd left_new × (0 < length front)
-  pub moved : length held_new + taken_old < length held_old + taken_new
+-- The other answers that are no line, each only from its cause.
+pub record AnswersStop (old new : Intake) (result : Next) : Type 0 where
+  -- a fault of the source is counted exactly where it is answered for the first time
+  pub faults : new.source.faults
+      ≡ (if is_some old.reader.finished then old.source.faults
+      else faults_after (is_read_fault result) old.source.faults)
+  pub over : result ≡ next.InputOver → INPUT_LIMIT < new.reader.taken
+  pub over_only : INPUT_LIMIT < new.reader.taken
+      → (result ≢ next.End) × (result ≢ next.ReadFault)
+  -- what was taken and not given has no line feed
+  pub rest : old.reader.finished ≡ None
+      → (result ≡ next.ReadFault) ⊎ (result ≡ next.InputOver)
+      → LeavesNoLine (to_come old) new.source.left
+
+-- Bytes and reads are counted.
+pub record CountsBytes (old new : Intake) (result : Next) : Type 0 where
+  pub bytes : TakesBytes old.source.left new.source.left old.reader.taken new.reader.taken
+  pub taken : new.reader.taken ≤ INPUT_LIMIT + 1
+  -- each line leaves fewer bytes to come
+  pub falls : finish_of result ≡ None
+      → length new.reader.held + old.reader.taken < length old.reader.held + new.reader.taken
+  pub reads : new.source.reads + most_reads old.reader
+      ≤ old.source.reads + most_reads new.reader
+
+-- An answer that is no line stays.
+pub record Stays (old new : Reading) (result : Next) : Type 0 where
+  pub finished : new.finished ≡ finish_of result
+  pub again : IsSome old.finished → (finish_of result ≡ old.finished) × (new ≡ old)

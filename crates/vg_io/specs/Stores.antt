@@ -1,24 +1,49 @@
--- Folders of files.
-use Rattle.std.specs.Prelude.{◌≡◌, ℕ, List, Bool, ◌||◌, IsTrue, IsSome, IfSome, Some, if◌then◌else◌}
+-- What a store of files tells, and what its calls do.
+use Rattle.std.specs.Prelude.{◌≡◌, ℕ, List, Bool, true, false, IsTrue, IfSome, Some, Ok, Err}
 use Rattle.std.specs.declared.option.Option.{Option}
+use Rattle.std.specs.declared.result.Result.{Result}
 use Rattle.std.specs.Ordering.{nat_cmp}
 use Rattle.std.specs.Cmp.Lexicographic.{slice_cmp}
+use Rattle.std.specs.List.{All}
 use Rattle.std.specs.List.Sorted.{IsStrictlySortedBy}
 use Rattle.std.specs.Map.{keys_of}
 use Rattle.vg_base.specs.Pairs.{find}
 use Rattle.vg_base.specs.declared.refused.Refused.{Refused}
 use Rattle.vg_base.specs.declared.refused.Refused.TheVariants as refused
 use Rattle.vg_io.specs.declared.source.Failed.{Failed}
-use Rattle.vg_io.specs.Outside.{counted}
-use Rattle.vg_io.specs.Objects.{is_named}
+use Rattle.vg_io.specs.Faults.{faults_after}
+
+-- the names and bytes of files, in rising order of names
+abbrev pub Files : Type 0
+Files = List (List ℕ × List ℕ)
+
+-- The files, where the store tells them; the names that were listed, so that their files may be
+-- loaded; and how many calls have met a fault.
+pub record ToldStore : Type 0 where
+  pub files : Option Files
+  pub is_listed : List ℕ → Bool
+  pub faults : ℕ
 
 -- the folder or a file could not be had
 abbrev pub store_fault : Refused Failed
 store_fault = refused.Fault (record {})
 
--- the names and bytes of files, in rising order of names
-abbrev pub Files : Type 0
-Files = List (List ℕ × List ℕ)
+-- a fault, and not want of memory
+abbrev pub is_fault : Refused Failed → Bool
+is_fault (refused.Fault fault) = true
+is_fault refused.Memory = false
+
+-- the call met a fault
+abbrev pub met_fault : {A : Type 0} → Result A (Refused Failed) → Bool
+met_fault (Ok value) = false
+met_fault (Err refusal) = is_fault refusal
+
+-- What each call keeps, and that it counts its fault.
+pub record KeepsFiles {A : Type 0} (old new : ToldStore) (result : Result A (Refused Failed))
+    : Type 0 where
+  pub files : new.files ≡ old.files
+  pub listed : (name : List ℕ) → IsTrue (old.is_listed name) → IsTrue (new.is_listed name)
+  pub faults : new.faults ≡ faults_after (met_fault result) old.faults
 
 -- the names of the files
 abbrev pub names_of : Files → List (List ℕ)
@@ -33,37 +58,10 @@ IsInByteOrder names = IsStrictlySortedBy (slice_cmp nat_cmp) names
 abbrev pub ListsNames : Option Files → List (List ℕ) → Type 0
 ListsNames files names = IfSome files (λ told. names ≡ names_of told)
 
+-- these names are listed
+abbrev pub AreListed : ToldStore → List (List ℕ) → Type 0
+AreListed store names = All (λ name. IsTrue (store.is_listed name)) names
+
 -- where files are told, the file of this name has these bytes
 abbrev pub HasBytes : Option Files → List ℕ → List ℕ → Type 0
 HasBytes files name bytes = IfSome files (λ told. find name told ≡ Some bytes)
-
--- A folder over memory: its files, whether a call has listed them, the calls that fail, the calls
--- so far and the faults so far.
-pub record Shelf : Type 0 where
-  pub files : Files
-  pub listed : Bool
-  pub failing : List ℕ
-  pub calls : ℕ
-  pub faults : ℕ
-
--- the files were listed, and one has this name
-abbrev pub IsListed : Shelf → List ℕ → Type 0
-IsListed shelf name = IsTrue shelf.listed × IsSome (find name shelf.files)
-
--- the next call meets a fault
-abbrev pub meets_fault : Shelf → Bool
-meets_fault shelf = is_named shelf.failing shelf.calls
-
--- the call is counted, and its fault
-abbrev pub after_call : Shelf → Shelf
-after_call shelf = record {
-  files = shelf.files;
-  listed = shelf.listed;
-  failing = shelf.failing;
-  calls = counted shelf.calls;
-  faults = if meets_fault shelf then counted shelf.faults else shelf.faults;
-}
-
--- the same, and that the files were listed
-abbrev pub after_list : Bool → Shelf → Shelf
-after_list listed shelf = record (after_call shelf) { listed = shelf.listed || listed }

@@ -1,9 +1,8 @@
 //! Bytes that were read and not yet given.
-ghost use Rattle.std.specs.Prelude.{◌≡◌, ◌+◌, ◌<◌, ◌≤◌, [], length, take, slice_index, IfOk, OnErr, IsTrue, ◌↔◌, ◌⊎◌, MatchOption, MatchResult};
-ghost use Rattle.std.specs.Io.KnownBytes.{Consumes, Keeps, IsAtEnd};
-ghost use Rattle.vg_io.specs.Outside.{Rose};
+ghost use Rattle.std.specs.Prelude.{◌≡◌, ◌<◌, ◌≤◌, [], length, take, slice_index, IfOk, OnErr, MatchOption};
+ghost use Rattle.vg_io.specs.Sources.{Reads};
 ghost use Rattle.vg_io.specs.Lines.{HasNoFeed};
-ghost use Rattle.vg_io.specs.Reader.{Moves, MovesPart};
+ghost use Rattle.vg_io.specs.code.Gathering.{Fills, Moves, MovesPart};
 
 use crate::gathered::Gathered;
 use crate::limits::{CHUNK, LINE_LIMIT};
@@ -46,15 +45,8 @@ impl Chunk {
         requires some { 0 < most }
         requires empty { self.old ≡ [] }
         ensures within { IfOk result (λ n. (n ≤ most) × (n ≡ length self.new)) }
-        ensures bytes { MatchResult result
-            (λ n. Consumes (S.left source.old) (S.left source.new) self.new
-            × (n ≡ 0 → IsAtEnd (S.left source.new)))
-            (λ _. Keeps (S.left source.old) (S.left source.new) × (self.new ≡ [])) }
-        ensures ends { IsTrue (S.ended source.new)
-            ↔ (IsTrue (S.ended source.old) ⊎ (result ≡ Ok 0)) }
-        ensures never_falls { S.faults source.old ≤ S.faults source.new }
-        ensures cause { OnErr result (Rose (S.faults source.old) (S.faults source.new)) }
-        ensures counted { S.reads source.new ≤ S.reads source.old + 1 }
+        ensures none { OnErr result (self.new ≡ []) }
+        ensures fills { Fills (S.told source.old) (S.told source.new) result self.new }
     {
         self.start = 0;
         self.end = 0;
@@ -88,14 +80,7 @@ fn read_front<S: Source>(source: &mut S, buf: &mut [u8], most: usize) -> Result<
     requires some { 0 < most }
     requires room { 0 < length buf.old }
     ensures within { IfOk result (λ n. (n ≤ most) × (n ≤ length buf.new)) }
-    ensures bytes { MatchResult result
-        (λ n. Consumes (S.left source.old) (S.left source.new) (take n buf.new)
-        × (n ≡ 0 → IsAtEnd (S.left source.new)))
-        (λ _. Keeps (S.left source.old) (S.left source.new)) }
-    ensures ends { IsTrue (S.ended source.new) ↔ (IsTrue (S.ended source.old) ⊎ (result ≡ Ok 0)) }
-    ensures never_falls { S.faults source.old ≤ S.faults source.new }
-    ensures cause { OnErr result (Rose (S.faults source.old) (S.faults source.new)) }
-    ensures counted { S.reads source.new ≤ S.reads source.old + 1 }
+    ensures reads { Reads (S.told source.old) (S.told source.new) result buf.new }
 {
     let room = most.min(buf.len());
     source.read(&mut buf[..room])

@@ -1,7 +1,7 @@
 //! The folders of the system: the trusted edge.
-ghost use Rattle.std.specs.Prelude.{◌≡◌, ◌≤◌, None};
-ghost use Rattle.vg_io.specs.Outside.{Rose};
-ghost use Rattle.vg_io.specs.Stores.{store_fault};
+ghost use Rattle.std.specs.Prelude.{◌≡◌, None, true};
+ghost use Rattle.vg_io.specs.Faults.{faults_after};
+ghost use Rattle.vg_io.specs.Stores.{is_fault};
 
 use crate::source::Failed;
 use crate::store::{Store, StoreFailed, names_in};
@@ -43,11 +43,17 @@ impl<'a, R> DirStore<'a, R> {
         }
     }
 
+    /// How many calls have met a fault.
+    pub fn faults(&self) -> u64
+        ensures { result ≡ self.now }
+    {
+        self.faults
+    }
+
     /// Counts a fault, and nothing else.
     fn meets(&mut self, failed: StoreFailed) -> StoreFailed
         ensures same { result ≡ failed }
-        ensures never_falls { self.old ≤ self.new }
-        ensures rises { failed ≡ store_fault → Rose self.old self.new }
+        ensures counts { self.new ≡ faults_after (is_fault failed) self.old }
     {
         if matches!(failed, Refused::Fault(_)) {
             self.faults = self.faults.saturating_add(1);
@@ -57,11 +63,7 @@ impl<'a, R> DirStore<'a, R> {
 }
 
 impl<'a, R: Files + AllocGlobal + Clone + Drop> Store for DirStore<'a, R> {
-    ghost files = { λ _. None };
-
-    ghost is_listed = { λ _ _. Unit {0} };
-
-    ghost faults = { λ s. s };
+    ghost told = { λ s. record { files = None; is_listed = λ _. true; faults = s } };
 
     fn open(&mut self, alloc: Global, folder: &Text) -> Result<(), StoreFailed> {
         self.folder = Some(Text::of(alloc, folder.as_str())?);

@@ -1,6 +1,7 @@
 //! The bytes of one line, as far as they were read.
 ghost use Rattle.std.specs.Prelude.{◌≡◌, ◌<◌, ◌≤◌, ℕ, List, [], length, None, OnOk, IsTrue, ◌↔◌};
-ghost use Rattle.vg_io.specs.Reader.{GathersIn, Adds, IfLine, finish_of};
+ghost use Rattle.vg_io.specs.Reader.{IfLine, finish_of};
+ghost use Rattle.vg_io.specs.code.Gathering.{GathersIn, Adds};
 
 use crate::limits::LINE_LIMIT;
 use crate::lines::Next;

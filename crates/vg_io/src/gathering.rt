@@ -1,10 +1,9 @@
 //! Reading up to the end of one line.
-ghost use Rattle.std.specs.Prelude.{◌≡◌, ℕ, ◌+◌, ◌<◌, ◌≤◌, List, [], length, true, false, IsTrue, ◌⊎◌};
-ghost use Rattle.std.specs.Io.KnownBytes.{IsAtEnd, prepend_known};
-ghost use Rattle.vg_io.specs.Outside.{Rose};
+ghost use Rattle.std.specs.Prelude.{◌≡◌, ℕ, ◌+◌, ◌<◌, ◌≤◌, List, [], length, true, false, IsTrue, ◌↔◌, ◌⊎◌};
+ghost use Rattle.std.specs.Io.KnownBytes.{IsAtEnd};
+ghost use Rattle.vg_io.specs.Faults.{faults_after};
 ghost use Rattle.vg_io.specs.Lines.{LeavesNoLine, TakesBytes};
-ghost use Rattle.vg_io.specs.Reader.{GathersIn, Ends};
-ghost use Rattle.vg_io.specs.Gather.{empty_reads, MetEnd};
+ghost use Rattle.vg_io.specs.code.Gathering.{GathersIn, Ends, taking, ahead, empty_reads, MetEnd, met_read_fault};
 
 use crate::chunk::Chunk;
 use crate::gathered::Gathered;
@@ -50,33 +49,36 @@ pub fn gather<S: Source>(
     requires small { taken.old ≤ INPUT_LIMIT + 1 }
     // Where the line ends.
     ensures whole { result ≡ Gathering.Whole
-        → Ends LINE_LIMIT true (S.left source.old) (S.left source.new)
-        chunk.old chunk.new taken.old taken.new line.new }
+        → Ends LINE_LIMIT true (taking chunk.old taken.old (S.told source.old).left)
+        (taking chunk.new taken.new (S.told source.new).left) line.new }
     ensures last { result ≡ Gathering.Last
-        → Ends LINE_LIMIT false (S.left source.old) (S.left source.new)
-        chunk.old chunk.new taken.old taken.new line.new }
+        → Ends LINE_LIMIT false (taking chunk.old taken.old (S.told source.old).left)
+        (taking chunk.new taken.new (S.told source.new).left) line.new }
     ensures end { result ≡ Gathering.Stop Finish.End
-        → IsAtEnd (prepend_known chunk.old (S.left source.old))
-        × IsAtEnd (S.left source.new) × (chunk.new ≡ []) }
+        → IsAtEnd (ahead (taking chunk.old taken.old (S.told source.old).left))
+        × IsAtEnd (S.told source.new).left × (chunk.new ≡ []) }
 
     // The end of input.
-    ensures met { MetEnd result → IsTrue (S.ended source.new) × (taken.new ≤ INPUT_LIMIT) }
-    ensures unmet { IsTrue (S.ended source.new) → IsTrue (S.ended source.old) ⊎ MetEnd result }
+    ensures met { IsTrue (S.told source.new).ended
+        ↔ (IsTrue (S.told source.old).ended ⊎ MetEnd result) }
+    ensures met_within { MetEnd result → taken.new ≤ INPUT_LIMIT }
 
     // The other causes.
-    ensures fault { result ≡ Gathering.Stop Finish.ReadFault
-        → Rose (S.faults source.old) (S.faults source.new) × (taken.new ≤ INPUT_LIMIT) }
+    ensures faults { (S.told source.new).faults
+        ≡ faults_after (met_read_fault result) (S.told source.old).faults }
+    ensures fault { result ≡ Gathering.Stop Finish.ReadFault → taken.new ≤ INPUT_LIMIT }
     ensures over { result ≡ Gathering.Stop Finish.InputOver → INPUT_LIMIT < taken.new }
     ensures rest { (result ≡ Gathering.Stop Finish.ReadFault)
         ⊎ (result ≡ Gathering.Stop Finish.InputOver)
-        → LeavesNoLine (prepend_known chunk.old (S.left source.old)) (S.left source.new) }
+        → LeavesNoLine (ahead (taking chunk.old taken.old (S.told source.old).left))
+        (S.told source.new).left }
 
     // The counts.
-    ensures counts { TakesBytes (S.left source.old) (S.left source.new) taken.old taken.new }
+    ensures counts { TakesBytes (S.told source.old).left (S.told source.new).left
+        taken.old taken.new }
     ensures taken { (taken.old ≤ taken.new) × (taken.new ≤ INPUT_LIMIT + 1) }
-    ensures never_falls { S.faults source.old ≤ S.faults source.new }
-    ensures reads { S.reads source.new + taken.old
-        ≤ S.reads source.old + taken.new + empty_reads result }
+    ensures reads { (S.told source.new).reads + taken.old
+        ≤ (S.told source.old).reads + taken.new + empty_reads result }
 {
     loop {
         match chunk.take_part(line) {

@@ -7,7 +7,8 @@ ghost use Rattle.vg_io.specs.Lines.{lines_of, whole_lines_of, HasNoFeed, with_fe
 /// are those, and the rest where it has a byte.
 pub fn lines_are_cut_at_feeds()
     ensures cut { (bytes : List ℕ) → (rest : List ℕ) × HasNoFeed rest
-        × All HasNoFeed (whole_lines_of bytes) × (bytes ≡ with_feeds (whole_lines_of bytes) ++ rest) }
+        × All HasNoFeed (whole_lines_of bytes)
+        × (bytes ≡ with_feeds (whole_lines_of bytes) ++ rest) }
     ensures whole { (lines : List (List ℕ)) (rest : List ℕ) → All HasNoFeed lines → HasNoFeed rest
         → whole_lines_of (with_feeds lines ++ rest) ≡ lines }
     ensures all { (lines : List (List ℕ)) (rest : List ℕ) → All HasNoFeed lines → HasNoFeed rest

@@ -1,14 +1,11 @@
 //! The lines of a source.
-ghost use Rattle.std.specs.Prelude.{◌≡◌, ◌≢◌, ℕ, ◌+◌, ◌<◌, ◌≤◌, List, [], length, false, None, Some, IfOk, IsSome, IsTrue, ◌↔◌, ◌⊎◌};
-ghost use Rattle.std.specs.Io.KnownBytes.{IsAtEnd};
-ghost use Rattle.vg_io.specs.Outside.{Rose};
-ghost use Rattle.vg_io.specs.Lines.{GivesLine, LeavesNoLine, TakesBytes, BeginsLong, IsKnownEmpty};
-ghost use Rattle.vg_io.specs.Reader.{IfLine, finish_of, to_come, most_reads};
+ghost use Rattle.std.specs.Prelude.{◌≡◌, [], false, None, Some, IfOk, IsSome, IsTrue, ◌↔◌, ◌⊎◌};
+ghost use Rattle.vg_io.specs.Reader.{reading_from, finish_of, AnswersLine, AnswersEnd, AnswersStop, CountsBytes, Stays};
 
 use crate::chunk::Chunk;
 use crate::gathered::Gathered;
 use crate::gathering::{Gathering, gather};
-use crate::limits::{INPUT_LIMIT, LINE_LIMIT};
+use crate::limits::INPUT_LIMIT;
 use crate::source::Source;
 use std::alloc::Global;
 use std::marker::Model;
@@ -81,7 +78,12 @@ impl Model for LineReader {
       finished = r.finished;
     } };
 
-    ghost invariant = { λ r. IsStanding INPUT_LIMIT r.chunk r.taken r.ended r.finished };
+    ghost invariant = { λ r. IsStanding INPUT_LIMIT (record {
+      held = r.chunk;
+      taken = r.taken;
+      ended = r.ended;
+      finished = r.finished;
+    }) };
 }
 
 impl LineReader {
@@ -102,60 +104,18 @@ impl LineReader {
     /// given again from then on, whatever source is handed in. A reader that met the end of input
     /// behind a last line without its line feed answers `End` next, also of another source.
     pub fn next<S: Source>(&mut self, source: &mut S) -> Next
-        // A line: the first of those that are to come, within the limit or past it.
-        ensures line { IfLine result (λ line. (length line ≤ LINE_LIMIT)
-            × GivesLine (to_come self.old (S.left source.old)) (to_come self.new (S.left source.new))
-            self.new.ended line) }
-        ensures long { result ≡ Next.Long → (line : List ℕ) × (LINE_LIMIT < length line)
-            × GivesLine (to_come self.old (S.left source.old)) (to_come self.new (S.left source.new))
-            self.new.ended line }
-        ensures long_only { self.old.finished ≡ None → self.old.ended ≡ false
-            → BeginsLong LINE_LIMIT (to_come self.old (S.left source.old))
-            → IfLine result (λ _. ⊥) × (result ≢ Next.End) }
-
-        // The end of input.
-        ensures end { self.old.finished ≡ None → result ≡ Next.End
-            → IsAtEnd (to_come self.old (S.left source.old)) ⊎ IsTrue self.old.ended }
-        ensures end_only { self.old.finished ≡ None
-            → IsKnownEmpty (to_come self.old (S.left source.old))
-            → IsSome (finish_of result) }
-        ensures end_met { IsSome (finish_of result)
-            → (IsTrue self.new.ended ↔ (result ≡ Next.End)) }
-        ensures end_stays { IsTrue self.old.ended
-            → (result ≡ Next.End) × (source.new ≡ source.old) }
-        ensures ended_source { IsTrue self.new.ended
-            → IsTrue self.old.ended ⊎ IsTrue (S.ended source.new) }
-        ensures ended_bytes { IsTrue self.new.ended
-            → IsTrue self.old.ended ⊎ IsAtEnd (to_come self.new (S.left source.new)) }
-        ensures source_ended { IsTrue (S.ended source.new)
-            → IsTrue (S.ended source.old) ⊎ IsTrue self.new.ended }
-
-        // The other causes. What was taken and not given has no line feed there.
-        ensures fault { self.old.finished ≡ None → result ≡ Next.ReadFault
-            → Rose (S.faults source.old) (S.faults source.new) }
-        ensures fault_rest { self.old.finished ≡ None → result ≡ Next.ReadFault
-            → LeavesNoLine (to_come self.old (S.left source.old)) (S.left source.new) }
-        ensures over { result ≡ Next.InputOver → INPUT_LIMIT < self.new.taken }
-        ensures over_only { INPUT_LIMIT < self.new.taken
-            → (result ≢ Next.End) × (result ≢ Next.ReadFault) }
-        ensures over_rest { self.old.finished ≡ None → result ≡ Next.InputOver
-            → LeavesNoLine (to_come self.old (S.left source.old)) (S.left source.new) }
-
-        // What is answered from now on.
-        ensures finished { self.new.finished ≡ finish_of result }
-        ensures again { IsSome self.old.finished
-            → (finish_of result ≡ self.old.finished)
-            × (self.new ≡ self.old) × (source.new ≡ source.old) }
-
-        // The counts: bytes taken, faults, and reads.
-        ensures counts { TakesBytes (S.left source.old) (S.left source.new)
-            self.old.taken self.new.taken }
-        ensures taken { self.new.taken ≤ INPUT_LIMIT + 1 }
-        ensures falls { finish_of result ≡ None
-            → length self.new.held + self.old.taken < length self.old.held + self.new.taken }
-        ensures never_falls { S.faults source.old ≤ S.faults source.new }
-        ensures reads { S.reads source.new + most_reads self.old
-            ≤ S.reads source.old + most_reads self.new }
+        ensures line { AnswersLine (reading_from self.old (S.told source.old))
+            (reading_from self.new (S.told source.new)) result }
+        ensures end { AnswersEnd (reading_from self.old (S.told source.old))
+            (reading_from self.new (S.told source.new)) result }
+        ensures stop { AnswersStop (reading_from self.old (S.told source.old))
+            (reading_from self.new (S.told source.new)) result }
+        ensures counts { CountsBytes (reading_from self.old (S.told source.old))
+            (reading_from self.new (S.told source.new)) result }
+        ensures stays { Stays self.old self.new result }
+        // Once the end was met, or an answer stays, the source is not touched.
+        ensures untouched { IsTrue self.old.ended ⊎ IsSome self.old.finished
+            → source.new ≡ source.old }
     {
         match self.finished {
             Some(finish) => return finish.answer(),

@@ -1,9 +1,9 @@
 //! A sink over memory whose room, pieces and faults are chosen.
-ghost use Rattle.std.specs.Prelude.{◌≡◌, ◌+◌, ◌<◌, ◌≤◌, ◌↔◌, ◌⊎◌, [], min, length, Some, IsTrue, IsErr, IfOk, OnErr, is_err, if◌then◌else◌};
+ghost use Rattle.std.specs.Prelude.{◌≡◌, ◌+◌, ◌<◌, ◌≤◌, ◌↔◌, ◌⊎◌, [], min, length, IsTrue, IsErr, IfOk, OnErr};
 ghost use Rattle.std.specs.List.{All};
-ghost use Rattle.std.specs.Io.KnownBytes.{WriteAppends, Keeps};
-ghost use Rattle.vg_io.specs.Outside.{Rose, counted};
-ghost use Rattle.vg_io.specs.Objects.{is_named, bounded};
+ghost use Rattle.vg_io.specs.Faults.{counted};
+ghost use Rattle.vg_io.specs.Sinks.{Writes, Flushes};
+ghost use Rattle.vg_io.specs.Objects.{told_by_drain, is_named, bounded};
 
 use crate::calls::{append_within, bound_at, is_failing};
 use crate::sink::Sink;
@@ -16,6 +16,7 @@ use vg_base::Memory;
 #[derive(Drop)]
 pub struct MemSink {
     bytes: Vec<u8>,
+    shown: usize,
     room: usize,
     pieces: Vec<u32>,
     failing: Vec<u64>,
@@ -24,7 +25,7 @@ pub struct MemSink {
 }
 
 impl Model for MemSink {
-    ghost use Rattle.std.specs.Prelude.{◌≤◌, ◌+◌, vec_len, vec_capacity};
+    ghost use Rattle.std.specs.Prelude.{◌≤◌, ◌+◌, take, vec_len, vec_capacity};
     ghost use Rattle.std.specs.List.{All};
     ghost use Rattle.vg_io.specs.Objects.{Drain};
 
@@ -32,6 +33,7 @@ impl Model for MemSink {
 
     ghost view = { λ s. record {
       written = s.bytes.items;
+      shown = take s.shown s.bytes.items;
       room = s.room;
       pieces = s.pieces.items;
       failing = s.failing.items;
@@ -40,7 +42,7 @@ impl Model for MemSink {
     } };
 
     ghost invariant = { λ s. (vec_len s.bytes + s.room ≤ vec_capacity s.bytes)
-        × All (λ p. 1 ≤ p) s.pieces.items };
+        × (s.shown ≤ vec_len s.bytes) × All (λ p. 1 ≤ p) s.pieces.items };
 }
 
 impl MemSink {
@@ -55,6 +57,7 @@ impl MemSink {
         requires { All (λ p. 1 ≤ p) pieces.items }
         ensures { IfOk result (λ s. s ≡ record {
           written = [];
+          shown = [];
           room = room;
           pieces = pieces.items;
           failing = failing.items;
@@ -65,6 +68,7 @@ impl MemSink {
         let bytes = Vec::with_capacity(alloc, room as usize)?;
         Ok(MemSink {
             bytes,
+            shown: 0,
             room: room as usize,
             pieces,
             failing,
@@ -79,21 +83,32 @@ impl MemSink {
     {
         self.bytes.as_slice()
     }
+
+    /// What was shown: all that was written before the last flush that did not fail.
+    pub fn shown(&self) -> &[u8]
+        ensures { result.now ≡ self.now.shown }
+    {
+        &self.bytes[..self.shown]
+    }
+
+    /// How many writes and flushes have failed.
+    pub fn faults(&self) -> u64
+        ensures { result ≡ self.now.faults }
+    {
+        self.faults
+    }
 }
 
 impl Sink for MemSink {
-    ghost written = { λ s. Some s.written };
+    ghost told = { told_by_drain };
 
-    ghost faults = { λ s. s.faults };
-
+    #[tactic(auto, using(crate::proofs::Showing::fronts))]
     fn write(&mut self, piece: &[u8]) -> Result<usize, Failed>
         requires { 0 < length piece.now }
         // What every sink says.
         ensures some { IfOk result (λ n. 0 < n) }
         ensures bound { IfOk result (λ n. n ≤ length piece.now) }
-        ensures bytes { WriteAppends (Some self.old.written) (Some self.new.written) result piece.now }
-        ensures never_falls { self.old.faults ≤ self.new.faults }
-        ensures cause { OnErr result (Rose self.old.faults self.new.faults) }
+        ensures writes { Writes (told_by_drain self.old) (told_by_drain self.new) result piece.now }
 
         // What this one does at each call.
         ensures fails { IsErr result
@@ -102,8 +117,7 @@ impl Sink for MemSink {
             n ≡ bounded self.old.pieces self.old.calls (min (length piece.now) self.old.room)) }
         ensures room { IfOk result (λ n. self.new.room + n ≡ self.old.room) }
         ensures kept { OnErr result (self.new.room ≡ self.old.room) }
-        ensures faults { self.new.faults
-            ≡ (if is_err result then counted self.old.faults else self.old.faults) }
+        ensures shown { self.new.shown ≡ self.old.shown }
         ensures calls { self.new.calls ≡ counted self.old.calls }
         ensures pieces { self.new.pieces ≡ self.old.pieces }
         ensures failing { self.new.failing ≡ self.old.failing }
@@ -120,17 +134,15 @@ impl Sink for MemSink {
         Ok(count)
     }
 
+    #[tactic(auto, using(crate::proofs::Showing::fronts))]
     fn flush(&mut self) -> Result<(), Failed>
         // What every sink says.
-        ensures bytes { Keeps (Some self.old.written) (Some self.new.written) }
-        ensures never_falls { self.old.faults ≤ self.new.faults }
-        ensures cause { OnErr result (Rose self.old.faults self.new.faults) }
+        ensures flushes { Flushes (told_by_drain self.old) (told_by_drain self.new) result }
 
         // What this one does at each call.
         ensures fails { IsErr result ↔ IsTrue (is_named self.old.failing self.old.calls) }
         ensures room { self.new.room ≡ self.old.room }
-        ensures faults { self.new.faults
-            ≡ (if is_err result then counted self.old.faults else self.old.faults) }
+        ensures kept { OnErr result (self.new.shown ≡ self.old.shown) }
         ensures calls { self.new.calls ≡ counted self.old.calls }
         ensures pieces { self.new.pieces ≡ self.old.pieces }
         ensures failing { self.new.failing ≡ self.old.failing }
@@ -141,6 +153,7 @@ impl Sink for MemSink {
             self.faults = self.faults.saturating_add(1);
             return Err(Failed);
         }
+        self.shown = self.bytes.len();
         Ok(())
     }
 }

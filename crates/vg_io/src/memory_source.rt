@@ -1,9 +1,9 @@
 //! A source over bytes in memory whose pieces and faults are chosen.
-ghost use Rattle.std.specs.Prelude.{◌≡◌, ◌+◌, ◌<◌, ◌≤◌, ◌↔◌, ◌⊎◌, min, length, false, Some, IsTrue, IsErr, IfOk, OnErr, is_err, if◌then◌else◌};
+ghost use Rattle.std.specs.Prelude.{◌≡◌, ◌<◌, ◌≤◌, ◌↔◌, ◌⊎◌, [], ◌++◌, take, min, length, false, IsTrue, IsErr, IfOk};
 ghost use Rattle.std.specs.List.{All};
-ghost use Rattle.std.specs.Io.KnownBytes.{ReadConsumes};
-ghost use Rattle.vg_io.specs.Outside.{Rose, EndsWhereNoneAreLeft, counted};
-ghost use Rattle.vg_io.specs.Objects.{is_named, bounded};
+ghost use Rattle.vg_io.specs.Faults.{counted};
+ghost use Rattle.vg_io.specs.Sources.{Reads};
+ghost use Rattle.vg_io.specs.Objects.{told_by_feed, is_named, bounded};
 
 use crate::calls::{bound_at, copy_front, is_failing};
 use crate::source::{Failed, Source};
@@ -64,35 +64,49 @@ impl MemSource {
             faults: 0,
         }
     }
+
+    /// How many reads have failed.
+    pub fn faults(&self) -> u64
+        ensures { result ≡ self.now.faults }
+    {
+        self.faults
+    }
+
+    /// Gives the next bytes, as many as call number `call` may.
+    #[tactic(auto, using(crate::proofs::Bytes::split_more))]
+    fn give(&mut self, buf: &mut [u8], call: u64) -> usize
+        requires { 0 < length buf.old }
+        ensures bytes { self.old.left ≡ take result buf.new ++ self.new.left }
+        ensures none { (result ≡ 0) ↔ (self.old.left ≡ []) }
+        ensures ended { IsTrue self.new.ended ↔ (IsTrue self.old.ended ⊎ (result ≡ 0)) }
+        ensures count { result
+            ≡ bounded self.old.pieces call (min (length buf.old) (length self.old.left)) }
+        ensures within { result ≤ length buf.new }
+        ensures kept { self.new ≡ record self.old { left = self.new.left; ended = self.new.ended } }
+    {
+        let rest = &self.bytes[self.at..];
+        let count = bound_at(&self.pieces, call, buf.len().min(rest.len()));
+        copy_front(buf, rest, count);
+        self.at += count;
+        self.ended = self.ended || count == 0;
+        count
+    }
 }
 
 impl Source for MemSource {
-    ghost left = { λ s. Some s.left };
+    ghost told = { told_by_feed };
 
-    ghost ended = { λ s. s.ended };
-
-    ghost faults = { λ s. s.faults };
-
-    ghost reads = { λ s. s.calls };
-
-    #[tactic(auto, using(crate::proofs::Bytes::split_more))]
     fn read(&mut self, buf: &mut [u8]) -> Result<usize, Failed>
         requires { 0 < length buf.old }
         // What every source says.
         ensures bound { IfOk result (λ n. n ≤ length buf.new) }
-        ensures bytes { ReadConsumes (Some self.old.left) (Some self.new.left) result buf.new }
-        ensures end { EndsWhereNoneAreLeft (Some self.old.left) result }
-        ensures ends { IsTrue self.new.ended ↔ (IsTrue self.old.ended ⊎ (result ≡ Ok 0)) }
-        ensures never_falls { self.old.faults ≤ self.new.faults }
-        ensures cause { OnErr result (Rose self.old.faults self.new.faults) }
-        ensures counted { self.new.calls ≤ self.old.calls + 1 }
+        ensures reads { Reads (told_by_feed self.old) (told_by_feed self.new) result buf.new }
 
         // What this one does at each call.
         ensures fails { IsErr result ↔ IsTrue (is_named self.old.failing self.old.calls) }
         ensures count { IfOk result (λ n. n
-            ≡ bounded self.old.pieces self.old.calls (min (length buf.old) (length self.old.left))) }
-        ensures faults { self.new.faults
-            ≡ (if is_err result then counted self.old.faults else self.old.faults) }
+            ≡ bounded self.old.pieces self.old.calls
+            (min (length buf.old) (length self.old.left))) }
         ensures calls { self.new.calls ≡ counted self.old.calls }
         ensures pieces { self.new.pieces ≡ self.old.pieces }
         ensures failing { self.new.failing ≡ self.old.failing }
@@ -103,11 +117,6 @@ impl Source for MemSource {
             self.faults = self.faults.saturating_add(1);
             return Err(Failed);
         }
-        let rest = &self.bytes[self.at..];
-        let count = bound_at(&self.pieces, call, buf.len().min(rest.len()));
-        copy_front(buf, rest, count);
-        self.at += count;
-        self.ended = self.ended || count == 0;
-        Ok(count)
+        Ok(self.give(buf, call))
     }
 }

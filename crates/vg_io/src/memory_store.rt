@@ -1,8 +1,7 @@
 //! A folder over memory whose faults are chosen.
-ghost use Rattle.std.specs.Prelude.{◌≡◌, ℕ, ◌≤◌, ◌↔◌, List, false, Some, Err, IsTrue, IsErr, IfOk, is_ok};
-ghost use Rattle.std.specs.List.{All};
-ghost use Rattle.vg_io.specs.Outside.{Rose};
-ghost use Rattle.vg_io.specs.Stores.{ListsNames, HasBytes, IsInByteOrder, IsListed, meets_fault, after_call, after_list, store_fault};
+ghost use Rattle.std.specs.Prelude.{◌≡◌, ◌↔◌, false, Some, Err, IsTrue, IsErr, IfOk, is_ok};
+ghost use Rattle.vg_io.specs.Stores.{KeepsFiles, ListsNames, AreListed, HasBytes, IsInByteOrder, store_fault};
+ghost use Rattle.vg_io.specs.Objects.{told_by_shelf, meets_fault, after_call, after_list};
 
 use crate::calls::is_failing;
 use crate::source::Failed;
@@ -23,7 +22,7 @@ pub struct MemStore {
 }
 
 impl Model for MemStore {
-    ghost use Rattle.vg_io.specs.Stores.{Shelf};
+    ghost use Rattle.vg_io.specs.Objects.{Shelf};
 
     ghost Value = { Shelf };
 
@@ -57,10 +56,16 @@ impl MemStore {
         }
     }
 
+    /// How many calls have met a fault.
+    pub fn faults(&self) -> u64
+        ensures { result ≡ self.now.faults }
+    {
+        self.faults
+    }
+
     /// Counts a call, and says whether it meets a fault.
     fn meets_fault(&mut self) -> bool
         ensures answer { result ≡ meets_fault self.old }
-        ensures never_falls { self.old.faults ≤ self.new.faults }
         ensures after { self.new ≡ after_call self.old }
     {
         let call = self.calls;
@@ -74,18 +79,11 @@ impl MemStore {
 }
 
 impl Store for MemStore {
-    ghost files = { λ s. Some s.files };
-
-    ghost is_listed = { IsListed };
-
-    ghost faults = { λ s. s.faults };
+    ghost told = { told_by_shelf };
 
     fn open(&mut self, _alloc: Global, _folder: &Text) -> Result<(), StoreFailed>
         // What every store says.
-        ensures kept { Some self.new.files ≡ Some self.old.files }
-        ensures stays { (name : List ℕ) → IsListed self.old name → IsListed self.new name }
-        ensures never_falls { self.old.faults ≤ self.new.faults }
-        ensures cause { result ≡ Err store_fault → Rose self.old.faults self.new.faults }
+        ensures keeps { KeepsFiles (told_by_shelf self.old) (told_by_shelf self.new) result }
 
         // What this one does at each call.
         ensures fails { IsErr result ↔ IsTrue (meets_fault self.old) }
@@ -102,11 +100,8 @@ impl Store for MemStore {
         // What every store says.
         ensures names { IfOk result (λ names. ListsNames (Some self.old.files) names.items) }
         ensures order { IfOk result (λ names. IsInByteOrder names.items) }
-        ensures listed { IfOk result (λ names. All (IsListed self.new) names.items) }
-        ensures kept { Some self.new.files ≡ Some self.old.files }
-        ensures stays { (name : List ℕ) → IsListed self.old name → IsListed self.new name }
-        ensures never_falls { self.old.faults ≤ self.new.faults }
-        ensures cause { result ≡ Err store_fault → Rose self.old.faults self.new.faults }
+        ensures listed { IfOk result (λ names. AreListed (told_by_shelf self.new) names.items) }
+        ensures keeps { KeepsFiles (told_by_shelf self.old) (told_by_shelf self.new) result }
 
         // What this one does at each call.
         ensures fails { (result ≡ Err store_fault) ↔ IsTrue (meets_fault self.old) }
@@ -121,13 +116,10 @@ impl Store for MemStore {
     }
 
     fn load(&mut self, alloc: Global, name: &Text) -> Result<Vec<u8>, StoreFailed>
-        requires { IsListed self.old name.now }
+        requires { IsTrue ((told_by_shelf self.old).is_listed name.now) }
         // What every store says.
         ensures bytes { IfOk result (λ bytes. HasBytes (Some self.old.files) name.now bytes.items) }
-        ensures kept { Some self.new.files ≡ Some self.old.files }
-        ensures stays { (listed : List ℕ) → IsListed self.old listed → IsListed self.new listed }
-        ensures never_falls { self.old.faults ≤ self.new.faults }
-        ensures cause { result ≡ Err store_fault → Rose self.old.faults self.new.faults }
+        ensures keeps { KeepsFiles (told_by_shelf self.old) (told_by_shelf self.new) result }
 
         // What this one does at each call.
         ensures fails { (result ≡ Err store_fault) ↔ IsTrue (meets_fault self.old) }

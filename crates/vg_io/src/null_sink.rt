@@ -15,9 +15,7 @@ impl NullSink {
 }
 
 impl Sink for NullSink {
-    ghost written = { λ _. None };
-
-    ghost faults = { λ _. 0 };
+    ghost told = { λ _. record { written = None; shown = None; faults = 0 } };
 
     fn write(&mut self, piece: &[u8]) -> Result<usize, Failed>
         requires { 0 < length piece.now }

@@ -1,8 +1,6 @@
 //! Where bytes come from.
-ghost use Rattle.std.specs.Prelude.{◌≡◌, ℕ, ◌+◌, ◌<◌, ◌≤◌, ◌↔◌, ◌⊎◌, List, length, Bool, IsTrue, IfOk, OnErr};
-ghost use Rattle.std.specs.declared.option.Option.{Option};
-ghost use Rattle.std.specs.Io.KnownBytes.{ReadConsumes};
-ghost use Rattle.vg_io.specs.Outside.{Rose, EndsWhereNoneAreLeft};
+ghost use Rattle.std.specs.Prelude.{◌<◌, ◌≤◌, length, IfOk};
+ghost use Rattle.vg_io.specs.Sources.{ToldSource, Reads};
 
 use std::fmt;
 
@@ -18,27 +16,13 @@ impl fmt::Display for Failed {
 
 /// Bytes that are read from the front.
 pub trait Source {
-    /// The bytes that are left, where the source tells them.
-    ghost left: { Self → Option (List ℕ) };
-
-    /// Whether a read has answered the end of input.
-    ghost ended: { Self → Bool };
-
-    /// How often a read has failed. The count stands still at the end of 64 bits.
-    ghost faults: { Self → ℕ };
-
-    /// A count that rises by at most one at each read. A bound on it is a bound on reads, since a
-    /// source may count them exactly.
-    ghost reads: { Self → ℕ };
+    /// What the source tells: the bytes left, whether a read met the end of input, and its counts
+    /// of faults and reads.
+    ghost told: { Self → ToldSource };
 
     /// Reads the next bytes into the front of `buf` and says how many; none is the end of input.
     fn read(&mut self, buf: &mut [u8]) -> Result<usize, Failed>
         requires { 0 < length buf.old }
         ensures bound { IfOk result (λ n. n ≤ length buf.new) }
-        ensures bytes { ReadConsumes (left self.old) (left self.new) result buf.new }
-        ensures end { EndsWhereNoneAreLeft (left self.old) result }
-        ensures ends { IsTrue (ended self.new) ↔ (IsTrue (ended self.old) ⊎ (result ≡ Ok 0)) }
-        ensures never_falls { faults self.old ≤ faults self.new }
-        ensures cause { OnErr result (Rose (faults self.old) (faults self.new)) }
-        ensures counted { reads self.new ≤ reads self.old + 1 };
+        ensures reads { Reads (told self.old) (told self.new) result buf.new };
 }

@@ -1,10 +1,7 @@
 //! Folders of files.
-ghost use Rattle.std.specs.Prelude.{◌≡◌, ℕ, ◌≤◌, List, IfOk, Err};
-ghost use Rattle.std.specs.List.{All};
-ghost use Rattle.std.specs.declared.option.Option.{Option};
+ghost use Rattle.std.specs.Prelude.{◌≡◌, IfOk, IsTrue};
 ghost use Rattle.std.specs.Map.{keys_of};
-ghost use Rattle.vg_io.specs.Outside.{Rose};
-ghost use Rattle.vg_io.specs.Stores.{Files, ListsNames, HasBytes, IsInByteOrder, store_fault};
+ghost use Rattle.vg_io.specs.Stores.{ToldStore, KeepsFiles, ListsNames, AreListed, HasBytes, IsInByteOrder};
 
 use crate::source::Failed;
 use std::alloc::Global;
@@ -15,40 +12,25 @@ pub type StoreFailed = Refused<Failed>;
 
 /// A folder of files, which no call changes.
 pub trait Store {
-    /// The files, where the store tells them.
-    ghost files: { Self → Option Files };
-
-    /// Whether a name was listed, so that its file may be loaded.
-    ghost is_listed: { Self → List ℕ → Type 0 };
-
-    /// How often a call has met a fault. The count stands still at the end of 64 bits.
-    ghost faults: { Self → ℕ };
+    /// What the store tells: its files, the names that were listed, and its count of faults.
+    ghost told: { Self → ToldStore };
 
     /// Names the folder.
     fn open(&mut self, alloc: Global, folder: &Text) -> Result<(), StoreFailed>
-        ensures kept { files self.new ≡ files self.old }
-        ensures stays { (name : List ℕ) → is_listed self.old name → is_listed self.new name }
-        ensures never_falls { faults self.old ≤ faults self.new }
-        ensures cause { result ≡ Err store_fault → Rose (faults self.old) (faults self.new) };
+        ensures { KeepsFiles (told self.old) (told self.new) result };
 
     /// The names of the files.
     fn list(&mut self, alloc: Global) -> Result<Vec<Text>, StoreFailed>
-        ensures names { IfOk result (λ names. ListsNames (files self.old) names.items) }
+        ensures names { IfOk result (λ names. ListsNames (told self.old).files names.items) }
         ensures order { IfOk result (λ names. IsInByteOrder names.items) }
-        ensures listed { IfOk result (λ names. All (is_listed self.new) names.items) }
-        ensures kept { files self.new ≡ files self.old }
-        ensures stays { (name : List ℕ) → is_listed self.old name → is_listed self.new name }
-        ensures never_falls { faults self.old ≤ faults self.new }
-        ensures cause { result ≡ Err store_fault → Rose (faults self.old) (faults self.new) };
+        ensures listed { IfOk result (λ names. AreListed (told self.new) names.items) }
+        ensures keeps { KeepsFiles (told self.old) (told self.new) result };
 
     /// The bytes of a file.
     fn load(&mut self, alloc: Global, name: &Text) -> Result<Vec<u8>, StoreFailed>
-        requires { is_listed self.old name.now }
-        ensures bytes { IfOk result (λ bytes. HasBytes (files self.old) name.now bytes.items) }
-        ensures kept { files self.new ≡ files self.old }
-        ensures stays { (listed : List ℕ) → is_listed self.old listed → is_listed self.new listed }
-        ensures never_falls { faults self.old ≤ faults self.new }
-        ensures cause { result ≡ Err store_fault → Rose (faults self.old) (faults self.new) };
+        requires { IsTrue ((told self.old).is_listed name.now) }
+        ensures bytes { IfOk result (λ bytes. HasBytes (told self.old).files name.now bytes.items) }
+        ensures keeps { KeepsFiles (told self.old) (told self.new) result };
 }
 
 /// The keys of a map, in their order.

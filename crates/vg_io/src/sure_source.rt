@@ -1,7 +1,7 @@
 //! A source over bytes in memory that never fails.
-ghost use Rattle.std.specs.Prelude.{◌≡◌, ◌+◌, ◌<◌, ◌≤◌, ◌↔◌, ◌⊎◌, min, length, false, Some, IsTrue, IfOk};
-ghost use Rattle.std.specs.Io.KnownBytes.{ReadConsumes};
-ghost use Rattle.vg_io.specs.Outside.{EndsWhereNoneAreLeft};
+ghost use Rattle.std.specs.Prelude.{◌≡◌, ◌<◌, ◌≤◌, min, length, false, IfOk};
+ghost use Rattle.vg_io.specs.Sources.{Reads};
+ghost use Rattle.vg_io.specs.Objects.{told_by_supply};
 
 use crate::calls::copy_front;
 use crate::source::{Failed, Source};
@@ -39,22 +39,14 @@ impl SureSource {
 }
 
 impl Source for SureSource {
-    ghost left = { λ s. Some s.left };
-
-    ghost ended = { λ s. s.ended };
-
-    ghost faults = { λ _. 0 };
-
-    ghost reads = { λ _. 0 };
+    ghost told = { told_by_supply };
 
     #[tactic(auto, using(crate::proofs::Bytes::split_more))]
     fn read(&mut self, buf: &mut [u8]) -> Result<usize, Failed>
         requires { 0 < length buf.old }
         // What every source says.
         ensures bound { IfOk result (λ n. n ≤ length buf.new) }
-        ensures bytes { ReadConsumes (Some self.old.left) (Some self.new.left) result buf.new }
-        ensures end { EndsWhereNoneAreLeft (Some self.old.left) result }
-        ensures ends { IsTrue self.new.ended ↔ (IsTrue self.old.ended ⊎ (result ≡ Ok 0)) }
+        ensures reads { Reads (told_by_supply self.old) (told_by_supply self.new) result buf.new }
 
         // What this one does.
         ensures count { result ≡ Ok (min (length buf.old) (length self.old.left)) }

@@ -1,19 +1,12 @@
 //! Writing a whole piece.
-ghost use Rattle.std.specs.Prelude.{ℕ, ◌<◌, ◌≤◌, length, take, OnOk, OnErr};
-ghost use Rattle.std.specs.Io.KnownBytes.{Appends};
-ghost use Rattle.vg_io.specs.Outside.{Rose};
+ghost use Rattle.vg_io.specs.Sinks.{WritesAll};
 
 use crate::sink::Sink;
 use crate::source::Failed;
 
 /// Writes the whole piece, in as many writes as the sink wants.
 pub fn write_all<K: Sink>(sink: &mut K, piece: &[u8]) -> Result<(), Failed>
-    ensures ok { OnOk result (Appends (K.written sink.old) (K.written sink.new) piece.now) }
-    // A failure leaves a front of the piece, and not all of it.
-    ensures err { OnErr result ((n : ℕ) × (n < length piece.now)
-        × Appends (K.written sink.old) (K.written sink.new) (take n piece.now)) }
-    ensures never_falls { K.faults sink.old ≤ K.faults sink.new }
-    ensures cause { OnErr result (Rose (K.faults sink.old) (K.faults sink.new)) }
+    ensures { WritesAll (K.told sink.old) (K.told sink.new) result piece.now }
 {
     let mut done = 0;
     while done < piece.len() {

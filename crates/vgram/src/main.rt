@@ -1,32 +1,52 @@
 //! The program: the server over standard input and standard output.
 #![tactic(auto)]
 
+ghost use Rattle.std.specs.Prelude.{◌≡◌};
+ghost use Rattle.server_shell.specs.Codes.{code_of};
+ghost use Rattle.vgram.specs.Endings.{line_at};
+
 use server_shell::{Status, serve};
 use std::alloc::Global;
-use std::env;
 use std::process::ExitCode;
 use std::rt::Env;
+use std::{env, io};
 use vg_base::Memory;
 use vg_io::{Open, ReadSource, WriteSink};
 
-/// What is told on standard error.
-fn message(status: Status) -> &'static str {
-    match status {
+/// How the process ends: its exit status, and the line on standard error, which is empty for none.
+#[derive(Drop)]
+struct Ending {
+    number: u8,
+    line: &'static str,
+}
+
+/// How the process ends at this status.
+fn ending_at(status: Status) -> Ending
+    ensures number { result.number ≡ code_of status }
+    ensures line { result.line.now ≡ line_at status }
+{
+    let line = match status {
         Status::Done => "",
         Status::Usage => "vgram: usage: vgram",
         Status::ReadFault => "vgram: read fault",
         Status::WriteFault => "vgram: write fault",
         Status::Memory => "vgram: out of memory",
         Status::InputOver => "vgram: input too long",
+    };
+    Ending {
+        number: status.code(),
+        line,
     }
 }
 
-/// The words of the command line; None where they can't be had as text.
+/// The words of the command line; None where one of them is no text.
 fn words_of(rt: &(impl Env + Alloc<A = Global>)) -> Result<Option<Vec<String>>, Memory> {
-    let mut words = Vec::new(rt.alloc());
-    let Ok(args) = env::args(rt) else {
-        return Ok(None);
+    let args = match env::args(rt) {
+        Ok(args) => args,
+        Err(error) if error.kind() == io::ErrorKind::OutOfMemory => return Err(Memory),
+        Err(_) => return Ok(None),
     };
+    let mut words = Vec::new(rt.alloc());
     for word in args {
         words.push(word)?;
     }
@@ -41,8 +61,9 @@ fn main(rt: HostRuntime) -> ExitCode {
         Ok(None) => Status::Usage,
         Err(Memory) => Status::Memory,
     };
-    if status != Status::Done {
-        let _ = eprintln!(rt; "{}", message(status));
+    let ending = ending_at(status);
+    if !ending.line.is_empty() {
+        let _ = eprintln!(rt; "{}", ending.line);
     }
-    ExitCode::from(status.code())
+    ExitCode::from(ending.number)
 }

@@ -70,14 +70,14 @@ fn lines_come_whatever_the_pieces(rt: HostRuntime) -> Result<(), Fail> {
 fn a_failing_read_ends_the_lines(rt: HostRuntime) -> Result<(), Fail> {
     let alloc = rt.alloc();
     let rows = [
-        (0, "ReadFaultReadFault"),
-        (1, "ReadFaultReadFault"),
-        (2, "[a]ReadFaultReadFault"),
-        (3, "[a]ReadFaultReadFault"),
-        (4, "[a]ReadFaultReadFault"),
-        (5, "[a][bc]EndEnd"),
+        (0, "ReadFaultReadFault", 1),
+        (1, "ReadFaultReadFault", 1),
+        (2, "[a]ReadFaultReadFault", 1),
+        (3, "[a]ReadFaultReadFault", 1),
+        (4, "[a]ReadFaultReadFault", 1),
+        (5, "[a][bc]EndEnd", 0),
     ];
-    for (failing, wanted) in rows {
+    for (failing, wanted, faults) in rows {
         let bytes = Vec::from_slice(alloc, b"a\nbc".as_slice())?;
         let calls = vec![in alloc; failing]?;
         let mut source = MemSource::open(bytes, vec![in alloc; 1]?, calls);
@@ -86,6 +86,7 @@ fn a_failing_read_ends_the_lines(rt: HostRuntime) -> Result<(), Fail> {
             wanted,
             "read {failing} fails"
         );
+        assert_eq!(rt; source.faults(), faults, "read {failing} fails");
     }
     Ok(())
 }

@@ -1,4 +1,4 @@
-ghost use Rattle.std.specs.List.{All};
+ghost use Rattle.vg_io.specs.Stores.{AreListed};
 
 use crate::{MemStore, Store};
 use sqlite_items::Items;
@@ -26,7 +26,7 @@ fn say_files<T: Store>(
     names: &Vec<Text>,
     said: &mut String,
 ) -> Result<(), Memory>
-    requires { All (T.is_listed store.old) names.now.items }
+    requires { AreListed (T.told store.old) names.now.items }
 {
     for name in names {
         said.push_str(name.as_str())?;
@@ -51,14 +51,14 @@ fn say_files<T: Store>(
 fn a_store_in_memory_fails_at_the_named_calls(rt: HostRuntime) -> Result<(), Fail> {
     let alloc = rt.alloc();
     let rows = [
-        (0, "no folder"),
-        (1, "no list"),
-        (2, "B.gram!"),
-        (3, "B.gram=x;a.gram!"),
-        (4, "B.gram=x;a.gram=yz;\u{e9}.gram!"),
-        (5, "B.gram=x;a.gram=yz;\u{e9}.gram=;"),
+        (0, "no folder", 1),
+        (1, "no list", 1),
+        (2, "B.gram!", 1),
+        (3, "B.gram=x;a.gram!", 1),
+        (4, "B.gram=x;a.gram=yz;\u{e9}.gram!", 1),
+        (5, "B.gram=x;a.gram=yz;\u{e9}.gram=;", 0),
     ];
-    for (failing, wanted) in rows {
+    for (failing, wanted, faults) in rows {
         let mut files = TextMap::new(alloc);
         for (name, bytes) in [("a.gram", "yz"), ("\u{e9}.gram", ""), ("B.gram", "x")] {
             let bytes = Items::from_slice(alloc, bytes.as_bytes())?;
@@ -67,6 +67,7 @@ fn a_store_in_memory_fails_at_the_named_calls(rt: HostRuntime) -> Result<(), Fai
         let mut store = MemStore::of(files, vec![in alloc; failing]?);
         let said = shown(alloc, &mut store, &Text::of(alloc, "f")?)?;
         assert_eq!(rt; said.as_str(), wanted, "call {failing} fails");
+        assert_eq!(rt; store.faults(), faults, "call {failing} fails");
     }
     Ok(())
 }

@@ -1,120 +1,140 @@
-use Rattle.std.proofs.Common.{◌≡◌, ◌⊎◌, [], true, false, Err, Bool, IsTrue, length, refl, sym, ap, ◌∙◌, subst, arith, inl, inr}
-use Rattle.std.proofs.KnownBytes.{Consumes-nil}
-use Rattle.vg_io.specs.Lines.{TakesBytes}
-use Rattle.vg_io.specs.Reader.{Reading, most_reads}
-use Rattle.server_shell.specs.declared.run.Stop.TheVariants as stop
-use Rattle.server_shell.specs.State.{State}
-use Rattle.server_shell.proofs.Counts.{TakesBytes-more, over_from, over_is, at_most_from}
-use Rattle.server_shell.proofs.Progress.{Progress, Progress-start, Progress-more}
-use Rattle.server_shell.proofs.Ending.{ends_all, ends_whole, ends_front, ends_partly}
+use Rattle.std.proofs.Common.{◌≡◌, ℕ, ◌+◌, ◌<◌, ◌≤◌, [], length, None, false, Err, refl, ap, ◌∙◌, subst, arith}
+use Rattle.vg_io.specs.Reader.{Reading, reading_from}
+use Rattle.vg_io.specs.declared.lines.Next.TheVariants as next
+use Rattle.server_shell.specs.code.Turning.{EndsRun, hold}
+use Rattle.server_shell.proofs.Progress.{Moment, line_more, line_full, batch_run, progress_none}
+use Rattle.server_shell.proofs.Sources.{Answered, steady_none, steady_next, stops_end, stops_now, in_form}
+use Rattle.server_shell.proofs.Writing.{takes_one, ran_nothing, ran_stop, ran_end, ran_cut}
 use Rattle.server_shell.proofs.run.run_lines.Goals as goal
-use Rattle.server_shell.proofs.run.run_lines.Goals.{After-turn}
+use Rattle.server_shell.proofs.run.run_lines.Goals.{After-take_next}
 use Rattle.server_shell.proofs.run.run_lines.Given.{Over}
 
-pub loop-number-init : goal.loop-number-init
-loop-number-init g c = record {
-  progress =
-      let a = g.S.Source.left c.args.source.now in
-      let w = g.K.Sink.written c.args.sink.now in
-      subst (λ (r : Reading). Progress a a w w r.held r.ended c.new-server.result 1) (sym c.requires)
-      (subst (λ (s : State). Progress a a w w [] false s 1) (sym c.new-server.ensures) (Progress-start a w));
-  open_reader = ap (λ (r : Reading). r.finished) c.requires;
-  ended_source = λ e. absurd (let f = ap (λ (r : Reading). r.ended) c.requires in cc);
-  source_ended = λ e. inl e;
-  takes = ([], Consumes-nil _, sym (ap (λ (r : Reading). r.taken) c.requires));
-  small = omega (arith, ap (λ (r : Reading). r.taken) c.requires);
-  counts = omega (arith, ap (λ (r : Reading). r.taken) c.requires, ap (λ (r : Reading). length r.held) c.requires);
-  version = omega (arith, ap (λ (s : State). s.version) c.new-server.ensures);
-  source_later = omega arith;
-  sink_later = omega arith;
-  reads = omega arith;
+-- the moment before the reader is asked, and the one after it has answered
+abbrev before : (g : Over) → After-take_next g → Moment g.row.B-State.Denot g.row.B-Line.Denot g.row.O.Denot
+before g c = record {
+  intake = reading_from c.loop-number.reader (g.S.Source.told c.loop-number.source);
+  hold = hold (g.B.Batches.kept c.loop-number.batches) c.loop-number.out;
+  number = c.loop-number.number;
 }
 
-bool_cases : (b : Bool) → (b ≡ true) ⊎ (b ≡ false)
-bool_cases true = inl refl
-bool_cases false = inr refl
+abbrev behind : (g : Over) → After-take_next g → Moment g.row.B-State.Denot g.row.B-Line.Denot g.row.O.Denot
+behind g c = record {
+  intake = reading_from c.next-next.new.self (g.S.Source.told c.next-next.new.source);
+  hold = hold (g.B.Batches.kept c.take_next.new.batches) c.loop-number.out;
+  number = c.loop-number.number + 1;
+}
 
--- where the reader has met the end of input, the source has
-ended_new : (g : Over) (c : After-turn g) → IsTrue c.turn.new.reader.ended → IsTrue (g.S.Source.ended c.turn.new.source)
-ended_new g c e = elim (c.turn.ensures.ended_source e) [
-  | inl before ↦ subst (λ v. IsTrue (g.S.Source.ended v)) (sym (c.turn.ensures.end_stays before).1) (c.loop-number.invariant.ended_source before)
-  | inr now ↦ now
-]
+answered : (g : Over) (c : After-take_next g) → Answered (reading_from c.loop-number.reader (g.S.Source.told c.loop-number.source))
+    (reading_from c.next-next.new.self (g.S.Source.told c.next-next.new.source)) c.next-next.result
+answered g c = record {
+  line = c.next-next.ensures.line;
+  end = c.next-next.ensures.end;
+  stop = c.next-next.ensures.stop;
+  counts = c.next-next.ensures.counts;
+  stays = c.next-next.ensures.stays;
+}
 
--- and where it had, the source had, and has
-ended_old : (g : Over) (c : After-turn g) → IsTrue c.loop-number.reader.ended → IsTrue (g.S.Source.ended c.turn.new.source)
-ended_old g c before = subst (λ v. IsTrue (g.S.Source.ended v)) (sym (c.turn.ensures.end_stays before).1) (c.loop-number.invariant.ended_source before)
+-- one more line: fewer bytes are to come, and the number of lines is bounded by the bytes
+module _ (number held taken : ℕ) where
+  counts_more : (held' taken' : ℕ) → number + held ≤ taken + 1 → held' + taken < held + taken' → (number + 1) + held' ≤ taken' + 1
+  counts_more held' taken' i f = omega (arith, i, f)
 
--- a fault and a want of input come only before the reader has met the end
-open_before : (g : Over) (c : After-turn g) → (c.turn.result ≡ Err stop.ReadFault) ⊎ (c.turn.result ≡ Err stop.InputOver) → c.loop-number.reader.ended ≡ false
-open_before g c e = elim (bool_cases c.loop-number.reader.ended) [
-  | inl ended ↦ absurd (let done = (c.turn.ensures.end_stays ended).0 in elim e [ inl fault ↦ (let h : Err stop.Done ≡ Err stop.ReadFault = sym done ∙ fault in cc) | inr over ↦ (let h : Err stop.Done ≡ Err stop.InputOver = sym done ∙ over in cc) ])
-  | inr open_still ↦ open_still
-]
+pub returns-in-Err-clause-ran : goal.returns-in-Err-clause-ran
+returns-in-Err-clause-ran g c =
+    let service = g.B.Batches.service in
+    let delivery = g.D.Delivers.delivery in
+    let lawful = g.met.D.Delivers.lawful in
+    let now : Moment g.row.B-State.Denot g.row.B-Line.Denot g.row.O.Denot = record {
+      intake = reading_from (record { held = []; taken = 0; ended = false; finished = None }) (g.S.Source.told c.args.source.now);
+      hold = hold (g.B.Batches.kept c.args.batches.now) c.args.out.now;
+      number = 1;
+    } in
+    ran_nothing service delivery lawful (progress_none service delivery now lawful refl c.requires.start refl)
+    (record { faults = refl; shown = λ h. h }) (steady_none now.intake refl)
 
-takes_all : (g : Over) (c : After-turn g) → TakesBytes (g.S.Source.left c.args.source.now) (g.S.Source.left c.turn.new.source) 0 c.turn.new.reader.taken
-takes_all g c = TakesBytes-more _ _ _ _ _ _ c.loop-number.invariant.takes c.turn.ensures.takes
+pub loop-number-init : goal.loop-number-init
+loop-number-init g c =
+    let service = g.B.Batches.service in
+    let delivery = g.D.Delivers.delivery in
+    let lawful = g.met.D.Delivers.lawful in
+    let now : Moment g.row.B-State.Denot g.row.B-Line.Denot g.row.O.Denot = record {
+      intake = reading_from c.in-Ok.reader (g.S.Source.told c.args.source.now);
+      hold = hold (g.B.Batches.kept c.args.batches.now) c.args.out.now;
+      number = 1;
+    } in record {
+      progress = progress_none service delivery now lawful c.in-Ok.ensures c.requires.start refl;
+      steady = steady_none now.intake c.in-Ok.ensures;
+      held = record { faults = refl; shown = λ h. h };
+      counts = omega (arith, ap (λ (r : Reading). r.taken) c.in-Ok.ensures, ap (λ (r : Reading). length r.held) c.in-Ok.ensures);
+      last = omega (arith, c.requires.none);
+    }
+
+pub loop-number-preserved-in-Ok-More : goal.loop-number-preserved-in-Ok-More
+loop-number-preserved-in-Ok-More g c =
+    let service = g.B.Batches.service in
+    let delivery = g.D.Delivers.delivery in
+    let d = (goal.at.loop-number-preserved-in-Ok-More g c).After-take_next in
+    let i = c.loop-number.invariant in
+    let t = rw c.in-Ok-More.field-0-is at c.in-Ok-More.ensures.takes in record {
+      progress = line_more service delivery (behind g d) i.progress (takes_one service delivery c.next-next.result (answered g d) t refl refl);
+      steady = steady_next (behind g d).intake i.steady (answered g d) t.is_line;
+      held = i.held;
+      counts = counts_more c.loop-number.number (length c.loop-number.reader.held) c.loop-number.reader.taken (length c.next-next.new.self.held) c.next-next.new.self.taken i.counts (c.next-next.ensures.counts.falls t.is_line);
+      last = omega (arith, c.in-Ok-More.ensures.last);
+    }
 
 pub loop-number-preserved : goal.loop-number-preserved
 loop-number-preserved g c =
+    let service = g.B.Batches.service in
+    let delivery = g.D.Delivers.delivery in
+    let lawful = g.met.D.Delivers.lawful in
+    let d = (goal.at.loop-number-preserved g c).After-take_next in
     let i = c.loop-number.invariant in
-    let d = (goal.at.loop-number-preserved g c).After-turn in record {
-      progress = Progress-more _ _ _ _ _ _ _ _ _ _ _ _ _ i.progress c.in-Ok.ensures.more;
-      open_reader = c.in-Ok.ensures.stays_open;
-      ended_source = ended_new g d;
-      source_ended = λ e. elim (c.turn.ensures.source_ended e) [
-        | inl before ↦ elim (i.source_ended before) [ inl first ↦ inl first | inr reader ↦ absurd (let stopped = (c.turn.ensures.end_stays reader).0 in cc) ]
-        | inr reader ↦ inr reader
-      ];
-      takes = TakesBytes-more _ _ _ _ _ _ i.takes c.turn.ensures.takes;
-      small = c.turn.ensures.taken;
-      counts = omega (arith, i.counts, c.in-Ok.ensures.falls);
-      version = omega (arith, i.version, c.turn.ensures.version);
-      source_later = omega (arith, i.source_later, c.turn.ensures.source_later);
-      sink_later = omega (arith, i.sink_later, c.turn.ensures.sink_later);
-      reads = omega (arith, i.reads, c.turn.ensures.reads);
+    let t = rw c.in-Ok-Full.field-0-is at c.in-Ok-Full.ensures.takes in
+    let f = c.in-Ok-run_batch.ensures.whole in record {
+      progress =
+          batch_run service delivery (hold (g.B.Batches.kept c.run_batch.new.batches) c.run_batch.new.out) lawful
+          (line_full service delivery (behind g d) i.progress (takes_one service delivery c.next-next.result (answered g d) t refl refl)) f;
+      steady = steady_next (behind g d).intake i.steady (answered g d) t.is_line;
+      held = record { faults = f.faults ∙ i.held.faults; shown = λ h. f.shows (i.held.shown h) };
+      counts = counts_more c.loop-number.number (length c.loop-number.reader.held) c.loop-number.reader.taken (length c.next-next.new.self.held) c.next-next.new.self.taken i.counts (c.next-next.ensures.counts.falls t.is_line);
+      last = omega (arith, c.in-Ok-Full.ensures.last, c.in-Ok-run_batch.ensures.last);
     }
 
-pub returns-in-Err-clause-done_wrote : goal.returns-in-Err-clause-done_wrote
-returns-in-Err-clause-done_wrote g c e =
+pub returns-in-Err-run_batch-clause-ran : goal.returns-in-Err-run_batch-clause-ran
+returns-in-Err-run_batch-clause-ran g c =
+    let service = g.B.Batches.service in
+    let delivery = g.D.Delivers.delivery in
+    let lawful = g.met.D.Delivers.lawful in
+    let d = (goal.at.returns-in-Err-run_batch-clause-ran g c).After-take_next in
     let i = c.loop-number.invariant in
-    let (bytes, took, n) = c.turn.ensures.takes in
-    ends_all _ _ _ _ _ _ _ bytes _ _ _ i.progress (c.turn.ensures.done_bytes (c.in-Err.is ∙ ap Err e)) took (ap g.K.Sink.written (c.turn.ensures.idle (inl (c.in-Err.is ∙ ap Err e))))
+    let t = rw c.in-Ok-Full.field-0-is at c.in-Ok-Full.ensures.takes in
+    ran_cut service delivery lawful (hold (g.B.Batches.kept c.run_batch.new.batches) c.run_batch.new.out) c.in-Err-run_batch.stop
+    (line_full service delivery (behind g d) i.progress (takes_one service delivery c.next-next.result (answered g d) t refl refl))
+    i.held (steady_next (behind g d).intake i.steady (answered g d) t.is_line) c.in-Err-run_batch.ensures.cut
 
-pub returns-in-Err-clause-read_fault_wrote : goal.returns-in-Err-clause-read_fault_wrote
-returns-in-Err-clause-read_fault_wrote g c e =
+pub returns-in-Err-End-clause-ran : goal.returns-in-Err-End-clause-ran
+returns-in-Err-End-clause-ran g c =
+    let service = g.B.Batches.service in
+    let delivery = g.D.Delivers.delivery in
+    let lawful = g.met.D.Delivers.lawful in
+    let d = (goal.at.returns-in-Err-End-clause-ran g c).After-take_next in
     let i = c.loop-number.invariant in
-    ends_whole _ _ _ _ _ _ _ _ _ _ i.progress (open_before g (goal.at.returns-in-Err-clause-read_fault_wrote g c).After-turn (inl (c.in-Err.is ∙ ap Err e))) (c.turn.ensures.read_fault_rest (c.in-Err.is ∙ ap Err e))
-    (ap g.K.Sink.written (c.turn.ensures.idle (inr (inl (c.in-Err.is ∙ ap Err e)))))
+    let after = hold (g.B.Batches.kept c.run_last.new.batches) c.run_last.new.out in
+    let is : c.next-next.result ≡ next.End = stops_end c.next-next.result (rw c.in-Err-End.field-0-is at c.in-Err-End.ensures.stops) in
+    ran_end service delivery lawful i.progress i.held i.steady after c.run_last.result (behind g d).intake
+    (subst (λ b. EndsRun service delivery (hold (g.B.Batches.kept b) c.loop-number.out) after c.run_last.result)
+    (c.in-Err-End.ensures.idle (ap Err c.in-Err-End.field-0-is)) c.run_last.ensures)
+    (subst (λ n. Answered (before g d).intake (behind g d).intake n) is (answered g d))
 
-pub returns-in-Err-clause-input_over : goal.returns-in-Err-clause-input_over
-returns-in-Err-clause-input_over g c e = over_from _ _ _ (takes_all g (goal.at.returns-in-Err-clause-input_over g c).After-turn) (c.turn.ensures.input_over (c.in-Err.is ∙ ap Err e))
-
-pub returns-in-Err-clause-input_over_wrote : goal.returns-in-Err-clause-input_over_wrote
-returns-in-Err-clause-input_over_wrote g c e =
+pub returns-in-Err-Now : goal.returns-in-Err-Now
+returns-in-Err-Now g c =
+    let service = g.B.Batches.service in
+    let delivery = g.D.Delivers.delivery in
+    let lawful = g.met.D.Delivers.lawful in
+    let d = (goal.at.returns-in-Err-Now g c).After-take_next in
     let i = c.loop-number.invariant in
-    ends_whole _ _ _ _ _ _ _ _ _ _ i.progress (open_before g (goal.at.returns-in-Err-clause-input_over_wrote g c).After-turn (inr (c.in-Err.is ∙ ap Err e))) (c.turn.ensures.input_over_rest (c.in-Err.is ∙ ap Err e))
-    (ap g.K.Sink.written (c.turn.ensures.idle (inr (inr (c.in-Err.is ∙ ap Err e)))))
-
-pub returns-in-Err-clause-over_only : goal.returns-in-Err-clause-over_only
-returns-in-Err-clause-over_only g c over =
-    let past = over_is _ _ _ (takes_all g (goal.at.returns-in-Err-clause-over_only g c).After-turn) over in
-    (λ e. (c.turn.ensures.over_only past).0 (c.in-Err.is ∙ ap Err e), λ e. (c.turn.ensures.over_only past).1 (c.in-Err.is ∙ ap Err e))
-
-pub returns-in-Err-clause-write_fault_wrote : goal.returns-in-Err-clause-write_fault_wrote
-returns-in-Err-clause-write_fault_wrote g c e =
-    let d = (goal.at.returns-in-Err-clause-write_fault_wrote g c).After-turn in
-    ends_partly _ _ _ _ _ _ _ _ _ _ _ _ _ _ c.loop-number.invariant.progress (ended_new g d) (c.turn.ensures.write_fault_wrote (c.in-Err.is ∙ ap Err e))
-
-pub returns-in-Err-clause-memory_wrote : goal.returns-in-Err-clause-memory_wrote
-returns-in-Err-clause-memory_wrote g c e =
-    let i = c.loop-number.invariant in
-    let d = (goal.at.returns-in-Err-clause-memory_wrote g c).After-turn in
-    let (bytes, took, n) = c.turn.ensures.takes in
-    elim (c.turn.ensures.memory (c.in-Err.is ∙ ap Err e)) [
-      | inl same ↦ ends_front _ _ _ _ _ _ _ bytes _ _ _ _ i.progress (ended_old g d) took (ap g.K.Sink.written same)
-      | inr part ↦ ends_partly _ _ _ _ _ _ _ _ _ _ _ _ _ _ i.progress (ended_new g d) part
-    ]
-
-pub returns-in-Err-clause-bound : goal.returns-in-Err-clause-bound
-returns-in-Err-clause-bound g c = at_most_from _ _ _ (takes_all g (goal.at.returns-in-Err-clause-bound g c).After-turn) c.turn.ensures.taken
+    let stops = stops_now c.next-next.result c.in-Err-Now.ending (rw c.in-Err-Now.field-0-is at c.in-Err-Now.ensures.stops) in record {
+      ran = ran_stop service delivery lawful i.progress i.held i.steady c.in-Err-Now.ending (behind g d).intake (answered g d) stops;
+      in_form = in_form c.next-next.result c.in-Err-Now.ending stops.0;
+    }

@@ -1,3 +1,4 @@
+-- No line feed stands before the place at hand.
 use Rattle.std.proofs.Common.{take}
 use Rattle.vg_io.specs.Lines.{HasNoFeed}
 use Rattle.vg_io.proofs.chunk.feed_at.Given as goal

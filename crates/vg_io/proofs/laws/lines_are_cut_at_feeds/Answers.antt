@@ -1,3 +1,4 @@
+-- The laws of lines are lemmas on their definitions.
 use Rattle.std.proofs.lemmas.List.Elements.{recursion_from_All, All-from_recursion}
 use Rattle.vg_io.proofs.Cutting.{lines_of-with_feeds, whole_lines_of-with_feeds, IsCut-whole_lines_of}
 use Rattle.vg_io.proofs.laws.lines_are_cut_at_feeds.Goals as goal

@@ -1,3 +1,4 @@
+-- The names so far, and those to come, are the keys.
 use Rattle.std.proofs.Common.{◌≡◌, ◌++◌}
 use Rattle.std.specs.Map.{keys_of}
 use Rattle.vg_io.proofs.store.names_in.Given as goal

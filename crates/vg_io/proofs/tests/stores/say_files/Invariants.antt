@@ -1,5 +1,6 @@
-use Rattle.std.specs.List.{All}
+-- The names stay listed.
+use Rattle.vg_io.specs.Stores.{AreListed}
 use Rattle.vg_io.proofs.tests.stores.say_files.Given as goal
 
 abbrev pub invariant-loop-name : goal.invariant-loop-name
-invariant-loop-name g l = All (g.T.Store.is_listed l.store) l.names.items
+invariant-loop-name g l = AreListed (g.T.Store.told l.store) l.names.items

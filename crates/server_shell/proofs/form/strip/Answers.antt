@@ -1,5 +1,0 @@
-use Rattle.server_shell.proofs.Stripped.{stripped}
-use Rattle.server_shell.proofs.form.strip.Goals as goal
-
-pub returns : goal.returns
-returns c = stripped c.args.text.now c.args.front.now c.strip_prefix.result c.strip_prefix.ensures.cases

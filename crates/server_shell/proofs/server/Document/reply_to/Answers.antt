@@ -1,8 +1,0 @@
-use Rattle.std.proofs.Common.{sym, subst}
-use Rattle.server_shell.specs.Forms.{Spells}
-use Rattle.server_shell.proofs.server.Document.reply_to.Goals as goal
-
-pub unreachable-requires : goal.unreachable-requires
-unreachable-requires c =
-    let form = c.self.invariant in
-    c.in_default.ensures form.name form.alternatives (subst (λ l. Spells l form.name form.alternatives) (sym c.deref.ensures.value) form.spells)

@@ -1,8 +1,0 @@
-use Rattle.std.proofs.Common.{sym, ◌∙◌, subst}
-use Rattle.server_shell.specs.Forms.{Spells}
-use Rattle.server_shell.proofs.server.read_characters.Goals as goal
-
-pub returns-in-None : goal.returns-in-None
-returns-in-None c = λ form.
-    c.in-None.ensures form.name form.alternatives
-    (subst (λ l. Spells l form.name form.alternatives) (sym (c.deref.ensures.value ∙ c.in_ok-characters.ensures)) form.spells)

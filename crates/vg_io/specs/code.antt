@@ -1,0 +1,2 @@
+-- What private contracts cite of the code.
+pub mod Gathering

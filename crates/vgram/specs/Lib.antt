@@ -1,0 +1,2 @@
+-- The one definition of the program.
+pub mod Endings
