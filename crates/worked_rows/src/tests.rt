@@ -7,6 +7,7 @@ mod operators_on_kinds;
 mod parts;
 mod reading;
 mod references;
+mod rules_on_a_shelf;
 mod statements;
 mod weights;
 
