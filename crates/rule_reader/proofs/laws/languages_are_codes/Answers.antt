@@ -1,5 +1,0 @@
-use Rattle.rule_reader.proofs.KeywordCodes.{is_code_of, is_lang_of}
-use Rattle.rule_reader.proofs.laws.languages_are_codes.Goals as goal
-
-pub returns : goal.returns
-returns c = record { code = is_code_of; lang = is_lang_of }

@@ -1,5 +1,0 @@
-use Rattle.rule_reader.proofs.OneAnswer.{some_answer_of, one_answer}
-use Rattle.rule_reader.proofs.laws.texts_have_one_answer.Goals as goal
-
-pub returns : goal.returns
-returns c = record { some = some_answer_of; one = one_answer }

@@ -1,7 +1,0 @@
-use Rattle.std.proofs.Common.{◌≡◌, drop}
-use Rattle.vg_base.specs.Reading.{answer, answer_from}
-use Rattle.rule_reader.specs.code.Readers.{machine}
-use Rattle.rule_reader.proofs.read.machine_answer.Given as goal
-
-abbrev pub invariant-loop-lexeme : goal.invariant-loop-lexeme
-invariant-loop-lexeme l = (l.at ≡ l.lexeme-index) × (answer_from machine l.at l.reader (drop l.at l.lexemes) ≡ answer machine l.lexemes)
