@@ -18,8 +18,11 @@ equal Equal e = refl
 equal Greater e = cc
 
 -- each name of the files has bytes
-pub find-name : (files : Files) (names : List (List ℕ)) → names ≡ names_of files → (k : ℕ) (d : List ℕ) → k < length names → IsSome (find (slice_index_or names k d) files)
+pub find-name : (files : Files) (names : List (List ℕ)) → names ≡ names_of files
+    → (k : ℕ) (d : List ℕ) → k < length names → IsSome (find (slice_index_or names k d) files)
 find-name files names e k d below =
     let name = slice_index_or names k d in
     let test = is_at (slice_cmp nat_cmp name) in
-    is_some-lookup test files ∙ ap (λ l. list_any test l) (sym e) ∙ list_any_at test names k d below (equal (slice_cmp nat_cmp name name) (nat_list_cmp_total.antisymm name name))
+    is_some-lookup test files ∙ ap (λ l. list_any test l) (sym e)
+    ∙ list_any_at test names k d below
+    (equal (slice_cmp nat_cmp name name) (nat_list_cmp_total.antisymm name name))

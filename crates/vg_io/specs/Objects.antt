@@ -58,18 +58,18 @@ told_by_drain drain = record {
 
 -- A folder: its files, whether a call has listed them, the calls that fail, the calls so far and
 -- the faults so far.
-pub record Shelf : Type 0 where
+pub record Folder : Type 0 where
   pub files : Files
   pub listed : Bool
   pub failing : List ℕ
   pub calls : ℕ
   pub faults : ℕ
 
-abbrev pub told_by_shelf : Shelf → ToldStore
-told_by_shelf shelf = record {
-  files = Some shelf.files;
-  is_listed = λ name. shelf.listed && is_some (find name shelf.files);
-  faults = shelf.faults;
+abbrev pub told_by_folder : Folder → ToldStore
+told_by_folder folder = record {
+  files = Some folder.files;
+  is_listed = λ name. folder.listed && is_some (find name folder.files);
+  faults = folder.faults;
 }
 
 -- call k is named in the list
@@ -83,19 +83,19 @@ bounded pieces k n =
     if nat_lt 0 (length pieces) then min n (slice_index pieces (min k (length pieces - 1))) else n
 
 -- the next call of a folder meets a fault
-abbrev pub meets_fault : Shelf → Bool
-meets_fault shelf = is_named shelf.failing shelf.calls
+abbrev pub meets_fault : Folder → Bool
+meets_fault folder = is_named folder.failing folder.calls
 
 -- the call is counted, and its fault
-abbrev pub after_call : Shelf → Shelf
-after_call shelf = record {
-  files = shelf.files;
-  listed = shelf.listed;
-  failing = shelf.failing;
-  calls = counted shelf.calls;
-  faults = faults_after (meets_fault shelf) shelf.faults;
+abbrev pub after_call : Folder → Folder
+after_call folder = record {
+  files = folder.files;
+  listed = folder.listed;
+  failing = folder.failing;
+  calls = counted folder.calls;
+  faults = faults_after (meets_fault folder) folder.faults;
 }
 
 -- the same, and that the files were listed
-abbrev pub after_list : Bool → Shelf → Shelf
-after_list listed shelf = record (after_call shelf) { listed = shelf.listed || listed }
+abbrev pub after_list : Bool → Folder → Folder
+after_list listed folder = record (after_call folder) { listed = folder.listed || listed }

@@ -13,14 +13,14 @@ use Rattle.vg_io.specs.Lines.{GivesLine, LeavesNoLine, TakesBytes, BeginsLong, I
 
 -- The bytes that were taken and not given, how many were taken in all, whether a read of this
 -- reader met the end of input, and the answer that is given from now on.
-pub record Reading : Type 0 where
+pub record ReaderState : Type 0 where
   pub held : List ℕ
   pub taken : ℕ
   pub ended : Bool
   pub finished : Option Finish
 
 -- what holds of every reader
-pub record IsStanding (limit : ℕ) (reader : Reading) : Type 0 where
+pub record IsReaderState (limit : ℕ) (reader : ReaderState) : Type 0 where
   pub few : reader.taken ≤ limit + 1
   pub end : IsTrue reader.ended → (reader.held ≡ []) × (reader.taken ≤ limit)
   pub stopped : IsSome reader.finished
@@ -29,15 +29,15 @@ pub record IsStanding (limit : ℕ) (reader : Reading) : Type 0 where
   pub over : reader.finished ≡ Some finish.InputOver → limit < reader.taken
 
 -- An upper count of a reader's reads: each takes a byte, but one that meets the end or fails.
-abbrev pub most_reads : Reading → ℕ
+abbrev pub most_reads : ReaderState → ℕ
 most_reads r = r.taken + (if r.ended || is_some r.finished then 1 else 0)
 
 -- A reader, and what the source tells that it reads.
 pub record Intake : Type 0 where
-  pub reader : Reading
+  pub reader : ReaderState
   pub source : ToldSource
 
-abbrev pub reading_from : Reading → ToldSource → Intake
+abbrev pub reading_from : ReaderState → ToldSource → Intake
 reading_from reader source = record { reader = reader; source = source }
 
 -- what is still to come as lines: the bytes that are held, and those that are left
@@ -62,17 +62,17 @@ IfLine next.ReadFault P = Unit {0}
 IfLine next.InputOver P = Unit {0}
 IfLine next.Memory P = Unit {0}
 
-abbrev pub is_read_fault : Next → Bool
-is_read_fault (next.Line _) = false
-is_read_fault next.Long = false
-is_read_fault next.End = false
-is_read_fault next.ReadFault = true
-is_read_fault next.InputOver = false
-is_read_fault next.Memory = false
+abbrev pub answers_read_fault : Next → Bool
+answers_read_fault (next.Line _) = false
+answers_read_fault next.Long = false
+answers_read_fault next.End = false
+answers_read_fault next.ReadFault = true
+answers_read_fault next.InputOver = false
+answers_read_fault next.Memory = false
 
 -- a reader that has met no end, and has no answer that stays
-abbrev pub IsOpen : Reading → Type 0
-IsOpen reader = (reader.finished ≡ None) × (reader.ended ≡ false)
+abbrev pub IsUnfinished : ReaderState → Type 0
+IsUnfinished reader = (reader.finished ≡ None) × (reader.ended ≡ false)
 
 -- this line is the next of those that are to come
 abbrev pub GivesNext : Intake → Intake → List ℕ → Type 0
@@ -84,14 +84,14 @@ pub record AnswersLine (old new : Intake) (result : Next) : Type 0 where
   pub long : result ≡ next.Long
       → (line : List ℕ) × (LINE_LIMIT < length line) × GivesNext old new line
   -- at a line past the limit no line is given, and no end
-  pub long_only : IsOpen old.reader → BeginsLong LINE_LIMIT (to_come old)
+  pub long_only : IsUnfinished old.reader → BeginsLong LINE_LIMIT (to_come old)
       → IfLine result (λ _. ⊥) × (result ≢ next.End)
   -- where no byte is left no line is given
   pub none_only : old.reader.finished ≡ None → IsKnownEmpty (to_come old)
       → IsSome (finish_of result)
 
 -- the reader met the end of input between these two
-abbrev pub MeetsEnd : Reading → Reading → Type 0
+abbrev pub MeetsEnd : ReaderState → ReaderState → Type 0
 MeetsEnd old new = (old.ended ≡ false) × IsTrue new.ended
 
 -- The end of input, for the reader and for its source.
@@ -113,7 +113,7 @@ pub record AnswersStop (old new : Intake) (result : Next) : Type 0 where
   -- a fault of the source is counted exactly where it is answered for the first time
   pub faults : new.source.faults
       ≡ (if is_some old.reader.finished then old.source.faults
-      else faults_after (is_read_fault result) old.source.faults)
+      else faults_after (answers_read_fault result) old.source.faults)
   pub over : result ≡ next.InputOver → INPUT_LIMIT < new.reader.taken
   pub over_only : INPUT_LIMIT < new.reader.taken
       → (result ≢ next.End) × (result ≢ next.ReadFault)
@@ -133,6 +133,6 @@ pub record CountsBytes (old new : Intake) (result : Next) : Type 0 where
       ≤ old.source.reads + most_reads new.reader
 
 -- An answer that is no line stays.
-pub record Stays (old new : Reading) (result : Next) : Type 0 where
+pub record Stays (old new : ReaderState) (result : Next) : Type 0 where
   pub finished : new.finished ≡ finish_of result
   pub again : IsSome old.finished → (finish_of result ≡ old.finished) × (new ≡ old)

@@ -20,7 +20,8 @@ abbrev pub EndsWhereNoneAreLeft : Option (List ℕ) → Result ℕ Failed → Ty
 EndsWhereNoneAreLeft left result = IfSome left (λ bytes. IfOk result (λ n. (n ≡ 0) ↔ (bytes ≡ [])))
 
 -- A read with this result, which left these bytes in its buffer.
-pub record Reads (old new : ToldSource) (result : Result ℕ Failed) (buf : List ℕ) : Type 0 where
+pub record ReadsBytes (old new : ToldSource) (result : Result ℕ Failed)
+    (buf : List ℕ) : Type 0 where
   -- the front of what was left was given, and nothing at a failure
   pub bytes : ReadConsumes old.left new.left result buf
   pub end : EndsWhereNoneAreLeft old.left result

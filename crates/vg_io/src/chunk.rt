@@ -1,8 +1,8 @@
 //! Bytes that were read and not yet given.
 ghost use Rattle.std.specs.Prelude.{◌≡◌, ◌<◌, ◌≤◌, [], length, take, slice_index, IfOk, OnErr, MatchOption};
-ghost use Rattle.vg_io.specs.Sources.{Reads};
+ghost use Rattle.vg_io.specs.Sources.{ReadsBytes};
 ghost use Rattle.vg_io.specs.Lines.{HasNoFeed};
-ghost use Rattle.vg_io.specs.code.Gathering.{Fills, Moves, MovesPart};
+ghost use Rattle.vg_io.specs.code.Gathering.{Fills, MovesHeld, MovesPart};
 
 use crate::gathered::Gathered;
 use crate::limits::{CHUNK, LINE_LIMIT};
@@ -59,7 +59,7 @@ impl Chunk {
     /// there.
     pub fn take_part(&mut self, line: &mut Gathered) -> Result<bool, AllocError>
         ensures { IfOk result (λ found.
-            Moves LINE_LIMIT found self.old self.new line.old line.new) }
+            MovesHeld LINE_LIMIT found self.old self.new line.old line.new) }
     {
         match move_part(&self.buf[self.start..self.end], line) {
             Err(e) => Err(e),
@@ -80,13 +80,13 @@ fn read_front<S: Source>(source: &mut S, buf: &mut [u8], most: usize) -> Result<
     requires some { 0 < most }
     requires room { 0 < length buf.old }
     ensures within { IfOk result (λ n. (n ≤ most) × (n ≤ length buf.new)) }
-    ensures reads { Reads (S.told source.old) (S.told source.new) result buf.new }
+    ensures reads { ReadsBytes (S.told source.old) (S.told source.new) result buf.new }
 {
     let room = most.min(buf.len());
     source.read(&mut buf[..room])
 }
 
-/// Adds a part of the line, and says how many bytes stood before its line feed.
+/// AddsPart a part of the line, and says how many bytes stood before its line feed.
 fn move_part(bytes: &[u8], line: &mut Gathered) -> Result<Option<usize>, AllocError>
     ensures { IfOk result (λ count. MovesPart LINE_LIMIT bytes.now count line.old line.new) }
 {

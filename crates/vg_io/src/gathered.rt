@@ -1,7 +1,7 @@
 //! The bytes of one line, as far as they were read.
 ghost use Rattle.std.specs.Prelude.{◌≡◌, ◌<◌, ◌≤◌, ℕ, List, [], length, None, OnOk, IsTrue, ◌↔◌};
 ghost use Rattle.vg_io.specs.Reader.{IfLine, finish_of};
-ghost use Rattle.vg_io.specs.code.Gathering.{GathersIn, Adds};
+ghost use Rattle.vg_io.specs.code.Gathering.{GathersIn, AddsPart};
 
 use crate::limits::LINE_LIMIT;
 use crate::lines::Next;
@@ -33,7 +33,7 @@ impl Gathered {
 
     /// Past the limit no byte is kept any more.
     pub fn add(&mut self, part: &[u8]) -> Result<(), AllocError>
-        ensures { OnOk result (Adds LINE_LIMIT part.now self.old self.new) }
+        ensures { OnOk result (AddsPart LINE_LIMIT part.now self.old self.new) }
     {
         if self.is_long {
             return Ok(());

@@ -3,7 +3,7 @@ ghost use Rattle.std.specs.Prelude.{◌≡◌, ℕ, ◌+◌, ◌<◌, ◌≤◌,
 ghost use Rattle.std.specs.Io.KnownBytes.{IsAtEnd};
 ghost use Rattle.vg_io.specs.Faults.{faults_after};
 ghost use Rattle.vg_io.specs.Lines.{LeavesNoLine, TakesBytes};
-ghost use Rattle.vg_io.specs.code.Gathering.{GathersIn, Ends, taking, ahead, empty_reads, MetEnd, met_read_fault};
+ghost use Rattle.vg_io.specs.code.Gathering.{GathersIn, EndsLine, taking, ahead, empty_reads, MetEnd, met_read_fault};
 
 use crate::chunk::Chunk;
 use crate::gathered::Gathered;
@@ -37,6 +37,13 @@ fn gathered_at_end(line: &Gathered) -> Gathering
     }
 }
 
+/// More bytes were taken than an input may have.
+fn is_over(taken: u64) -> bool
+    ensures { IsTrue result ↔ INPUT_LIMIT < taken }
+{
+    taken > INPUT_LIMIT
+}
+
 /// Moves bytes to the line until it ends. No read asks for more bytes than one past the limit of
 /// an input.
 pub fn gather<S: Source>(
@@ -49,10 +56,10 @@ pub fn gather<S: Source>(
     requires small { taken.old ≤ INPUT_LIMIT + 1 }
     // Where the line ends.
     ensures whole { result ≡ Gathering.Whole
-        → Ends LINE_LIMIT true (taking chunk.old taken.old (S.told source.old).left)
+        → EndsLine LINE_LIMIT true (taking chunk.old taken.old (S.told source.old).left)
         (taking chunk.new taken.new (S.told source.new).left) line.new }
     ensures last { result ≡ Gathering.Last
-        → Ends LINE_LIMIT false (taking chunk.old taken.old (S.told source.old).left)
+        → EndsLine LINE_LIMIT false (taking chunk.old taken.old (S.told source.old).left)
         (taking chunk.new taken.new (S.told source.new).left) line.new }
     ensures end { result ≡ Gathering.Stop Finish.End
         → IsAtEnd (ahead (taking chunk.old taken.old (S.told source.old).left))
@@ -86,7 +93,7 @@ pub fn gather<S: Source>(
             Ok(true) => return Gathering::Whole,
             Ok(false) => {}
         }
-        if *taken > INPUT_LIMIT {
+        if is_over(*taken) {
             return Gathering::Stop(Finish::InputOver);
         }
         let most = (INPUT_LIMIT + 1 - *taken) as usize;

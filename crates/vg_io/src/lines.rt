@@ -67,9 +67,9 @@ pub struct LineReader {
 
 impl Model for LineReader {
     ghost use Rattle.vg_io.specs.declared.limits.TheConstants.{INPUT_LIMIT};
-    ghost use Rattle.vg_io.specs.Reader.{Reading, IsStanding};
+    ghost use Rattle.vg_io.specs.Reader.{ReaderState, IsReaderState};
 
-    ghost Value = { Reading };
+    ghost Value = { ReaderState };
 
     ghost view = { λ r. record {
       held = r.chunk;
@@ -78,7 +78,7 @@ impl Model for LineReader {
       finished = r.finished;
     } };
 
-    ghost invariant = { λ r. IsStanding INPUT_LIMIT (record {
+    ghost invariant = { λ r. IsReaderState INPUT_LIMIT (record {
       held = r.chunk;
       taken = r.taken;
       ended = r.ended;

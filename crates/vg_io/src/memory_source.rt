@@ -2,7 +2,7 @@
 ghost use Rattle.std.specs.Prelude.{◌≡◌, ◌<◌, ◌≤◌, ◌↔◌, ◌⊎◌, [], ◌++◌, take, min, length, false, IsTrue, IsErr, IfOk};
 ghost use Rattle.std.specs.List.{All};
 ghost use Rattle.vg_io.specs.Faults.{counted};
-ghost use Rattle.vg_io.specs.Sources.{Reads};
+ghost use Rattle.vg_io.specs.Sources.{ReadsBytes};
 ghost use Rattle.vg_io.specs.Objects.{told_by_feed, is_named, bounded};
 
 use crate::calls::{bound_at, copy_front, is_failing};
@@ -100,7 +100,7 @@ impl Source for MemSource {
         requires { 0 < length buf.old }
         // What every source says.
         ensures bound { IfOk result (λ n. n ≤ length buf.new) }
-        ensures reads { Reads (told_by_feed self.old) (told_by_feed self.new) result buf.new }
+        ensures reads { ReadsBytes (told_by_feed self.old) (told_by_feed self.new) result buf.new }
 
         // What this one does at each call.
         ensures fails { IsErr result ↔ IsTrue (is_named self.old.failing self.old.calls) }

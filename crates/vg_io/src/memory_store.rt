@@ -1,7 +1,7 @@
 //! A folder over memory whose faults are chosen.
 ghost use Rattle.std.specs.Prelude.{◌≡◌, ◌↔◌, false, Some, Err, IsTrue, IsErr, IfOk, is_ok};
 ghost use Rattle.vg_io.specs.Stores.{KeepsFiles, ListsNames, AreListed, HasBytes, IsInByteOrder, store_fault};
-ghost use Rattle.vg_io.specs.Objects.{told_by_shelf, meets_fault, after_call, after_list};
+ghost use Rattle.vg_io.specs.Objects.{told_by_folder, meets_fault, after_call, after_list};
 
 use crate::calls::is_failing;
 use crate::source::Failed;
@@ -22,9 +22,9 @@ pub struct MemStore {
 }
 
 impl Model for MemStore {
-    ghost use Rattle.vg_io.specs.Objects.{Shelf};
+    ghost use Rattle.vg_io.specs.Objects.{Folder};
 
-    ghost Value = { Shelf };
+    ghost Value = { Folder };
 
     ghost view = { λ s. record {
       files = s.files;
@@ -79,11 +79,11 @@ impl MemStore {
 }
 
 impl Store for MemStore {
-    ghost told = { told_by_shelf };
+    ghost told = { told_by_folder };
 
     fn open(&mut self, _alloc: Global, _folder: &Text) -> Result<(), StoreFailed>
         // What every store says.
-        ensures keeps { KeepsFiles (told_by_shelf self.old) (told_by_shelf self.new) result }
+        ensures keeps { KeepsFiles (told_by_folder self.old) (told_by_folder self.new) result }
 
         // What this one does at each call.
         ensures fails { IsErr result ↔ IsTrue (meets_fault self.old) }
@@ -100,8 +100,8 @@ impl Store for MemStore {
         // What every store says.
         ensures names { IfOk result (λ names. ListsNames (Some self.old.files) names.items) }
         ensures order { IfOk result (λ names. IsInByteOrder names.items) }
-        ensures listed { IfOk result (λ names. AreListed (told_by_shelf self.new) names.items) }
-        ensures keeps { KeepsFiles (told_by_shelf self.old) (told_by_shelf self.new) result }
+        ensures listed { IfOk result (λ names. AreListed (told_by_folder self.new) names.items) }
+        ensures keeps { KeepsFiles (told_by_folder self.old) (told_by_folder self.new) result }
 
         // What this one does at each call.
         ensures fails { (result ≡ Err store_fault) ↔ IsTrue (meets_fault self.old) }
@@ -116,10 +116,10 @@ impl Store for MemStore {
     }
 
     fn load(&mut self, alloc: Global, name: &Text) -> Result<Vec<u8>, StoreFailed>
-        requires { IsTrue ((told_by_shelf self.old).is_listed name.now) }
+        requires { IsTrue ((told_by_folder self.old).is_listed name.now) }
         // What every store says.
         ensures bytes { IfOk result (λ bytes. HasBytes (Some self.old.files) name.now bytes.items) }
-        ensures keeps { KeepsFiles (told_by_shelf self.old) (told_by_shelf self.new) result }
+        ensures keeps { KeepsFiles (told_by_folder self.old) (told_by_folder self.new) result }
 
         // What this one does at each call.
         ensures fails { (result ≡ Err store_fault) ↔ IsTrue (meets_fault self.old) }

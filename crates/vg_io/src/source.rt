@@ -1,6 +1,6 @@
 //! Where bytes come from.
 ghost use Rattle.std.specs.Prelude.{◌<◌, ◌≤◌, length, IfOk};
-ghost use Rattle.vg_io.specs.Sources.{ToldSource, Reads};
+ghost use Rattle.vg_io.specs.Sources.{ToldSource, ReadsBytes};
 
 use std::fmt;
 
@@ -24,5 +24,5 @@ pub trait Source {
     fn read(&mut self, buf: &mut [u8]) -> Result<usize, Failed>
         requires { 0 < length buf.old }
         ensures bound { IfOk result (λ n. n ≤ length buf.new) }
-        ensures reads { Reads (told self.old) (told self.new) result buf.new };
+        ensures reads { ReadsBytes (told self.old) (told self.new) result buf.new };
 }

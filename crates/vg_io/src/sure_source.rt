@@ -1,6 +1,6 @@
 //! A source over bytes in memory that never fails.
 ghost use Rattle.std.specs.Prelude.{◌≡◌, ◌<◌, ◌≤◌, min, length, false, IfOk};
-ghost use Rattle.vg_io.specs.Sources.{Reads};
+ghost use Rattle.vg_io.specs.Sources.{ReadsBytes};
 ghost use Rattle.vg_io.specs.Objects.{told_by_supply};
 
 use crate::calls::copy_front;
@@ -46,7 +46,7 @@ impl Source for SureSource {
         requires { 0 < length buf.old }
         // What every source says.
         ensures bound { IfOk result (λ n. n ≤ length buf.new) }
-        ensures reads { Reads (told_by_supply self.old) (told_by_supply self.new) result buf.new }
+        ensures reads { ReadsBytes (told_by_supply self.old) (told_by_supply self.new) result buf.new }
 
         // What this one does.
         ensures count { result ≡ Ok (min (length buf.old) (length self.old.left)) }

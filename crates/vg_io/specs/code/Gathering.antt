@@ -21,25 +21,26 @@ abbrev pub GathersIn : ℕ → List ℕ → Gathered → Type 0
 GathersIn limit front line = Gathers limit front line.bytes.items line.is_long
 
 -- whatever was gathered, this part is gathered behind it
-abbrev pub Adds : ℕ → List ℕ → Gathered → Gathered → Type 0
-Adds limit part old new =
+abbrev pub AddsPart : ℕ → List ℕ → Gathered → Gathered → Type 0
+AddsPart limit part old new =
     (front : List ℕ) → GathersIn limit front old → GathersIn limit (front ++ part) new
 
 -- Bytes were gathered: all of them, which have no line feed, or those before the first line feed.
 abbrev pub MovesPart : ℕ → List ℕ → Option ℕ → Gathered → Gathered → Type 0
-MovesPart limit bytes None old new = HasNoFeed bytes × Adds limit bytes old new
+MovesPart limit bytes None old new = HasNoFeed bytes × AddsPart limit bytes old new
 MovesPart limit bytes (Some n) old new =
     (n < length bytes) × HasNoFeed (take n bytes)
     × (bytes ≡ take n bytes ++ 10 ∷ drop (n + 1) bytes)
-    × Adds limit (take n bytes) old new
+    × AddsPart limit (take n bytes) old new
 
 -- A line's end was moved from what is held, with its line feed; or all that is held, which has no
 -- line feed.
-abbrev pub Moves : ℕ → Bool → List ℕ → List ℕ → Gathered → Gathered → Type 0
-Moves limit true held_old held_new old new =
-    (part : List ℕ) × HasNoFeed part × (held_old ≡ part ++ 10 ∷ held_new) × Adds limit part old new
-Moves limit false held_old held_new old new =
-    HasNoFeed held_old × (held_new ≡ []) × Adds limit held_old old new
+abbrev pub MovesHeld : ℕ → Bool → List ℕ → List ℕ → Gathered → Gathered → Type 0
+MovesHeld limit true held_old held_new old new =
+    (part : List ℕ) × HasNoFeed part × (held_old ≡ part ++ 10 ∷ held_new)
+    × AddsPart limit part old new
+MovesHeld limit false held_old held_new old new =
+    HasNoFeed held_old × (held_new ≡ []) × AddsPart limit held_old old new
 
 -- A read into what is held, which was empty.
 pub record Fills (old new : ToldSource) (result : Result ℕ Failed) (held : List ℕ) : Type 0 where
@@ -72,7 +73,7 @@ pub record InLine (limit : ℕ) (old new : Taking) (line : Gathered) : Type 0 wh
   pub moved : length front + length new.held + old.taken ≡ length old.held + new.taken
 
 -- A line ended, at its line feed, or at the end of the bytes with no line feed.
-pub record Ends (limit : ℕ) (fed : Bool) (old new : Taking) (line : Gathered) : Type 0 where
+pub record EndsLine (limit : ℕ) (fed : Bool) (old new : Taking) (line : Gathered) : Type 0 where
   pub front : List ℕ
   pub no_feed : HasNoFeed front
   pub gathers : GathersIn limit front line

@@ -1,11 +1,12 @@
+//! The adapters over readers and writers, and a folder of the system.
 use super::lines::answers;
 use super::stores::shown;
-use crate::{DirStore, Gate, Open, ReadSource, Sink, Store, WriteSink, write_all};
+use crate::{DirStore, ReadSource, Sink, Store, WriteSink, write_all};
 use std::cell::Cell;
 use std::io::{self, ErrorKind, Read, Write};
 use std::test::Fail;
 use std::{env, fs, process};
-use vg_base::{DocIx, LoaderNo, Text};
+use vg_base::Text;
 
 /// A writer that takes three bytes at a time, and shows what was flushed.
 #[derive(Drop)]
@@ -80,13 +81,6 @@ fn adapters_count_each_failure_once(rt: HostRuntime) -> Result<(), Fail> {
     assert!(rt; sink.flush().is_err());
     assert_eq!(rt; sink.faults(), 2);
     Ok(())
-}
-
-#[test]
-fn the_open_gate_holds_nobody(_rt: HostRuntime) {
-    Open.pass(0, 1);
-    Open.made(0, 1);
-    Open.reading(LoaderNo(1), DocIx(0));
 }
 
 #[test]

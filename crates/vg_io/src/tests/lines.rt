@@ -1,3 +1,4 @@
+//! Lines whatever the pieces that they come in, failing reads, and lines past the limit.
 use crate::{LineReader, MemSource, Next, Source, SureSource};
 use std::alloc::{AllocError, Global};
 use std::test::Fail;

@@ -1,3 +1,4 @@
+//! What sinks write and show, and what a source can see of it.
 ghost use Rattle.std.specs.Prelude.{None, false};
 
 use crate::{Failed, MemSink, NullSink, Sink, Source, write_all};

@@ -1,3 +1,4 @@
+//! A store in memory whose calls fail where they are told to.
 ghost use Rattle.vg_io.specs.Stores.{AreListed};
 
 use crate::{MemStore, Store};
