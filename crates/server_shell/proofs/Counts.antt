@@ -8,9 +8,14 @@ use Rattle.server_shell.specs.Served.{TakesOver, TakesAtMost}
 
 module _ (a b c : Option (List ℕ)) (s t u : ℕ) where
   pub takes_more : TakesBytes a b s t → TakesBytes b c t u → TakesBytes a c s u
-  takes_more (xs, p, m) (ys, q, n) = (xs ++ ys, Consumes-trans a b c xs ys p q, omega (arith, length-append xs ys))
+  takes_more (xs, p, m) (ys, q, n) = (
+    xs ++ ys,
+    Consumes-trans a b c xs ys p q,
+    omega (arith, length-append xs ys),
+  )
 
-pub over_from : (a c : Option (List ℕ)) (t : ℕ) → TakesBytes a c 0 t → INPUT_LIMIT < t → IfSome a (λ _. TakesOver a c)
+pub over_from : (a c : Option (List ℕ)) (t : ℕ) → TakesBytes a c 0 t → INPUT_LIMIT < t
+    → IfSome a (λ _. TakesOver a c)
 over_from None c t (bytes, p, n) h = tt
 over_from (Some xs) None t (bytes, p, n) h = absurd p
 over_from (Some xs) (Some ys) t (bytes, p, n) h = omega (arith, ap length p, length-append bytes ys)
@@ -20,7 +25,12 @@ over_is None c t (bytes, p, n) h = absurd h
 over_is (Some xs) None t (bytes, p, n) h = absurd p
 over_is (Some xs) (Some ys) t (bytes, p, n) h = omega (arith, ap length p, length-append bytes ys)
 
-pub at_most_from : (a c : Option (List ℕ)) (t : ℕ) → TakesBytes a c 0 t → t ≤ INPUT_LIMIT + 1 → TakesAtMost a c
+pub at_most_from : (a c : Option (List ℕ)) (t : ℕ) → TakesBytes a c 0 t → t ≤ INPUT_LIMIT + 1
+    → TakesAtMost a c
 at_most_from None c t (bytes, p, n) h = tt
 at_most_from (Some xs) None t (bytes, p, n) h = absurd p
-at_most_from (Some xs) (Some ys) t (bytes, p, n) h = omega (arith, ap length p, length-append bytes ys)
+at_most_from (Some xs) (Some ys) t (bytes, p, n) h = omega (
+  arith,
+  ap length p,
+  length-append bytes ys,
+)

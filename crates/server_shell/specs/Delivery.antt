@@ -1,5 +1,5 @@
 -- What becomes of replies.
-use Rattle.std.specs.Prelude.{◌≡◌, ℕ, ◌+◌, ◌-◌, ◌^◌, ◌<◌, min, List, [], ◌++◌, length, Ok, Err}
+use Rattle.std.specs.Prelude.{◌≡◌, ℕ, ◌+◌, ◌-◌, ◌^◌, ◌<◌, ◌≤◌, min, List, [], ◌++◌, length, Ok, Err}
 use Rattle.std.specs.declared.option.Option.{Option}
 use Rattle.std.specs.List.{flat_map}
 use Rattle.std.specs.Io.KnownBytes.{Appends}
@@ -24,10 +24,10 @@ pub record Delivery (O R : Type 0) : Type 1 where
 -- what holds of every delivery
 pub record IsLawful {O R : Type 0} (delivery : Delivery O R) : Type 0 where
   pub nothing : (a : O) → delivery.takes a a []
-  pub more : (a b c : O) (xs ys : List R) → delivery.takes a b xs → delivery.takes b c ys
+  pub more : (a b c : O) (xs ys : List R) → delivery.takes a b xs × delivery.takes b c ys
       → delivery.takes a c (xs ++ ys)
   pub none : (a : O) (xs : List R) → delivery.begins a a xs
-  pub part : (a b c : O) (xs ys : List R) → delivery.takes a b xs → delivery.begins b c ys
+  pub part : (a b c : O) (xs ys : List R) → delivery.takes a b xs × delivery.begins b c ys
       → delivery.begins a c (xs ++ ys)
 
 -- the count of faults after a call with this result; want of memory is no fault
@@ -52,12 +52,15 @@ printed told line_of = record {
   faults = λ sink. (told sink).faults;
 }
 
--- They are counted in 64 bits, at whose end the count stands still.
+-- n more were counted in 64 bits, at whose end the count stands still
+abbrev pub CountsMore : (old new n : ℕ) → Type 0
+CountsMore old new n = old < 2 ^ 64 → new ≡ min (old + n) (2 ^ 64 - 1)
+
+-- They are counted.
 abbrev pub counted_replies : {R : Type 0} → Delivery ℕ R
 counted_replies = record {
-  takes = λ old new replies.
-      old < 2 ^ 64 → new ≡ min (old + length replies) (2 ^ 64 - 1);
-  begins = λ old new replies. Unit {0};
+  takes = λ old new replies. CountsMore old new (length replies);
+  begins = λ old new replies. (n : ℕ) × (n ≤ length replies) × CountsMore old new n;
   shows = λ count. Unit {0};
   faults = λ count. 0;
 }

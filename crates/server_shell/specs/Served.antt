@@ -51,19 +51,21 @@ is_write_fault status.Memory = false
 is_write_fault status.InputOver = false
 
 -- the input ended, failed or was too long, and no reply was lost
-abbrev pub IsWhole : Status → Type 0
-IsWhole s = (s ≡ status.Done) ⊎ ((s ≡ status.ReadFault) ⊎ (s ≡ status.InputOver))
+abbrev pub LosesNoReply : Status → Type 0
+LosesNoReply s = (s ≡ status.Done) ⊎ ((s ≡ status.ReadFault) ⊎ (s ≡ status.InputOver))
 
 module _ {S C L R O : Type 0} (service : Service S C L R) (delivery : Delivery O R) where
-  -- The input was read to its end, and the replies to all of it were taken.
+  -- The input was read to its end, and the replies to all of it were taken, and shown where there
+  -- are any.
   pub record ServesAll (old new : Outside O) (input : List ℕ) : Type 0 where
     pub left : new.source.left ≡ Some []
     pub replies : List R
     pub answers : Answers service input replies
     pub delivered : delivery.takes old.out new.out replies
+    pub shown : replies ≢ [] → delivery.shows new.out
 
   -- Of what was taken the batches that their own last line ended, with its line feed, were
-  -- answered, all of them.
+  -- answered, all of them, and their replies were shown where there are any.
   pub record ServesWhole (old new : Outside O) (input : List ℕ) : Type 0 where
     pub taken : List ℕ
     pub rest : List ℕ
@@ -72,6 +74,7 @@ module _ {S C L R O : Type 0} (service : Service S C L R) (delivery : Delivery O
     pub replies : List R
     pub answers : AnswersBatches service (whole_batches_in service (whole_lines_of taken)) replies
     pub delivered : delivery.takes old.out new.out replies
+    pub shown : replies ≢ [] → delivery.shows new.out
 
   -- Batches at the front of what was taken; the last of all counts where the source was read to
   -- its end.
@@ -103,7 +106,7 @@ module _ {S C L R O : Type 0} (service : Service S C L R) (delivery : Delivery O
     pub write_fault : ending ≡ status.WriteFault → IfSome old.source.left (ServesFront old new)
     pub memory : ending ≡ status.Memory → IfSome old.source.left (ServesFront old new)
     -- where no reply was lost, all that was taken is shown, if that was so before
-    pub shown : IsWhole ending → delivery.shows old.out → delivery.shows new.out
+    pub shown : LosesNoReply ending → delivery.shows old.out → delivery.shows new.out
     -- a fault is counted exactly where it ends the run
     pub source_faults : new.source.faults ≡ faults_after (is_read_fault ending) old.source.faults
     pub out_faults :

@@ -1,4 +1,5 @@
--- What only private contracts of the loop cite.
+-- What only private contracts of the loop and of the first form cite.
 pub mod Turning
 pub mod Keeping
 pub mod Lawful
+pub mod TextCuts

@@ -1,15 +1,17 @@
 //! Lines that are taken into batches, and batches that are answered.
 ghost use Rattle.std.specs.Prelude.{◌≡◌, ℕ, ◌<◌, ◌≤◌, ◌^◌, ◌↔◌, List, [], length, IfOk, OnOk, IsTrue};
 ghost use Rattle.vg_io.specs.declared.limits.TheConstants.{LINE_LIMIT};
-ghost use Rattle.server_shell.specs.Service.{Service, Kept, GoesOn, TakesLine, RunsBatch};
+ghost use Rattle.server_shell.specs.Service.{Service, BetweenLines, HasOpenBatch, TakesRead, RunsBatch};
 
 use vg_base::Memory;
 
-/// Whether a batch goes on behind a line or ended with it.
+/// Where the open batch ends.
 #[derive(Clone, Copy, Drop, Debug)]
-pub enum Taken {
-    More,
-    Full,
+pub enum BatchEnd {
+    /// Behind a later line.
+    Later,
+    /// With the line that was just taken.
+    Here,
 }
 
 /// A server that takes lines into an open batch, and answers the batch when it has ended.
@@ -22,39 +24,39 @@ pub trait Batches {
     /// A count within a batch, by which it ends.
     type Count;
 
-    /// What is read of a line.
-    type Line;
+    /// An item, which is read of a line that is not blank.
+    type Item;
 
     /// What the server answers.
-    ghost service: { Service Self.State Self.Count Self.Line Self.Reply };
+    ghost service: { Service Self.State Self.Count Self.Item Self.Reply };
 
-    /// What stands, and what was read of the lines of the open batch.
-    ghost kept: { Self → Kept Self.State Self.Line };
+    /// What stands, and the items of the open batch.
+    ghost kept: { Self → BetweenLines Self.State Self.Item };
 
     /// The number of the last line that was taken, or 0.
     ghost last: { Self → ℕ };
 
-    /// Takes a line into the open batch. At Err nothing is said of the server.
-    fn take(&mut self, number: u64, line: &[u8]) -> Result<Taken, Memory>
-        requires open { GoesOn service (kept self.old) }
+    /// Takes a line into the open batch; a blank one leaves it as it is. At Err nothing is said of the server.
+    fn take(&mut self, number: u64, line: &[u8]) -> Result<BatchEnd, Memory>
+        requires open { HasOpenBatch service (kept self.old) }
         requires within { length line.now ≤ LINE_LIMIT }
         requires later { last self.old < number }
         requires few { number < 2 ^ 63 }
         ensures takes { IfOk result
-            (TakesLine service (kept self.old) (kept self.new) (service.read number line.now)) }
+            (TakesRead service (kept self.old) (kept self.new) (service.read number line.now)) }
         ensures last { OnOk result (last self.new ≡ number) };
 
     /// Takes a line past the limit, whose bytes aren't known.
-    fn take_long(&mut self, number: u64) -> Result<Taken, Memory>
-        requires open { GoesOn service (kept self.old) }
+    fn take_long(&mut self, number: u64) -> Result<BatchEnd, Memory>
+        requires open { HasOpenBatch service (kept self.old) }
         requires later { last self.old < number }
         requires few { number < 2 ^ 63 }
         ensures takes { (line : List ℕ) → LINE_LIMIT < length line
             → IfOk result
-            (TakesLine service (kept self.old) (kept self.new) (service.read number line)) }
+            (TakesRead service (kept self.old) (kept self.new) (service.read number line)) }
         ensures last { OnOk result (last self.new ≡ number) };
 
-    /// Whether the open batch has no line.
+    /// Whether the open batch has no item.
     fn is_empty(&self) -> bool
         ensures { IsTrue result ↔ ((kept self.now).pending ≡ []) };
 

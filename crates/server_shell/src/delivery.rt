@@ -1,5 +1,5 @@
 //! What becomes of the replies of a batch.
-ghost use Rattle.std.specs.Prelude.{◌≡◌, ◌+◌, ◌-◌, ◌^◌, min, List, length, IfErr, OnOk, OnErr};
+ghost use Rattle.std.specs.Prelude.{◌≡◌, ◌≢◌, ◌+◌, ◌-◌, ◌^◌, min, List, [], length, IfErr, OnOk, OnErr};
 ghost use Rattle.vg_base.specs.declared.refused.Refused.{Refused};
 ghost use Rattle.vg_io.specs.declared.source.Failed.{Failed};
 ghost use Rattle.server_shell.specs.Delivery.{Delivery, IsLawful, counted_replies, faults_of};
@@ -12,11 +12,13 @@ pub trait Delivers<R, O> {
     /// What becomes of replies.
     ghost delivery: { Delivery O R };
 
-    /// Hands the replies over, in their order, and shows them. At a failure a front of them was taken.
+    /// Hands the replies over, in their order, and shows them where there are any. At a failure a
+    /// front of them was taken.
     fn deliver(&self, out: &mut O, replies: &[R]) -> Result<(), Refused<Failed>>
         ensures whole { OnOk result (delivery.takes out.old out.new replies.now) }
         ensures front { OnErr result (delivery.begins out.old out.new replies.now) }
-        ensures shown { OnOk result (delivery.shows out.old → delivery.shows out.new) }
+        ensures shown { OnOk result (replies.now ≢ [] → delivery.shows out.new) }
+        ensures kept { OnOk result (delivery.shows out.old → delivery.shows out.new) }
         ensures faults { delivery.faults out.new ≡ faults_of result (delivery.faults out.old) };
 
     ghost lawful: { IsLawful delivery };

@@ -19,7 +19,7 @@ pub trait Printed {
         ensures { IfOk result (λ text. string_bytes text ≡ line self.now) };
 }
 
-/// Prints the lines of replies, and flushes the sink after those of a batch.
+/// Prints the lines of the replies of a batch together, and flushes the sink after them.
 #[derive(Clone, Copy, Drop)]
 pub struct Printing {
     pub alloc: Global,
@@ -39,42 +39,16 @@ fn write_piece<K: Sink>(sink: &mut K, piece: &[u8]) -> Result<(), Refused<Failed
     }
 }
 
-/// Writes the line of a reply.
-fn print<R: Printed, K: Sink>(alloc: Global, sink: &mut K, reply: &R) -> Result<(), Refused<Failed>>
-    ensures whole { OnOk result
-        (Appends (K.told sink.old).written (K.told sink.new).written (R.line reply.now)) }
-    ensures front { OnErr result
-        (WritesFront (K.told sink.old).written (K.told sink.new).written (R.line reply.now)) }
-    ensures faults { (K.told sink.new).faults ≡ faults_of result (K.told sink.old).faults }
+/// The lines of replies, one after another.
+fn lines_of<R: Printed>(alloc: Global, replies: &[R]) -> Result<Vec<u8>, Memory>
+    ensures { IfOk result (λ lines. lines.items ≡ flat_map R.line replies.now) }
 {
-    let text = match reply.text(alloc) {
-        Ok(text) => text,
-        Err(Memory) => return Err(Refused::Memory),
-    };
-    write_piece(sink, text.as_bytes())
-}
-
-/// Writes the lines of replies.
-fn print_all<R: Printed, K: Sink>(
-    alloc: Global,
-    sink: &mut K,
-    replies: &[R],
-) -> Result<(), Refused<Failed>>
-    ensures whole { OnOk result
-        (Appends (K.told sink.old).written (K.told sink.new).written
-        (flat_map R.line replies.now)) }
-    ensures front { OnErr result
-        (WritesFront (K.told sink.old).written (K.told sink.new).written
-        (flat_map R.line replies.now)) }
-    ensures faults { (K.told sink.new).faults ≡ faults_of result (K.told sink.old).faults }
-{
+    let mut lines = Vec::new(alloc);
     for reply in replies {
-        match print(alloc, sink, reply) {
-            Ok(()) => {}
-            Err(refused) => return Err(refused),
-        }
+        let text = reply.text(alloc)?;
+        lines.extend_from_slice(text.as_bytes())?;
     }
-    Ok(())
+    Ok(lines)
 }
 
 /// Flushes the sink.
@@ -100,7 +74,10 @@ impl<R: Printed, K: Sink> Delivers<R, K> for Printing {
         if replies.is_empty() {
             return Ok(());
         }
-        match print_all(self.alloc, out, replies) {
+        let Ok(lines) = lines_of(self.alloc, replies) else {
+            return Err(Refused::Memory);
+        };
+        match write_piece(out, &lines) {
             Ok(()) => show(out),
             Err(refused) => Err(refused),
         }

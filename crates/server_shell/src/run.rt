@@ -1,13 +1,13 @@
-//! The run of a server over a source: lines are taken into batches, and each batch is answered, and its replies delivered,
-//! before the next line is read.
+//! The run of a server over a source: lines are taken into batches, and each batch is answered, and
+//! its replies delivered, before the next line is read.
 ghost use Rattle.std.specs.Prelude.{◌≡◌, ◌≢◌, ℕ, ◌+◌, ◌^◌, ◌<◌, ◌≤◌, List, [], length, Ok, Err, IfOk, IfErr, OnOk};
 ghost use Rattle.vg_io.specs.declared.limits.TheConstants.{LINE_LIMIT};
 ghost use Rattle.vg_io.specs.Reader.{IfLine};
-ghost use Rattle.server_shell.specs.Service.{GoesOn};
+ghost use Rattle.server_shell.specs.Service.{HasOpenBatch};
 ghost use Rattle.server_shell.specs.Served.{Ran, outside};
 ghost use Rattle.server_shell.specs.code.Turning.{StopsBy, TakesNext, Finishes, Breaks, EndsRun, hold};
 
-use super::batches::{Batches, Taken};
+use super::batches::{BatchEnd, Batches};
 use super::delivery::Delivers;
 use super::outcome::Status;
 use std::alloc::Global;
@@ -24,7 +24,7 @@ enum Stop {
 }
 
 /// What a call that took a line comes to.
-fn taken_or_memory(answer: Result<Taken, Memory>) -> Result<Taken, Stop>
+fn taken_or_memory(answer: Result<BatchEnd, Memory>) -> Result<BatchEnd, Stop>
     ensures ok { IfOk result (λ taken. answer ≡ Ok taken) }
     ensures err { IfErr result (λ stop. stop ≡ Stop.Now Status.Memory) }
 {
@@ -34,9 +34,10 @@ fn taken_or_memory(answer: Result<Taken, Memory>) -> Result<Taken, Stop>
     }
 }
 
-/// Takes what the reader gave into the open batch; Err where it is no line, or where memory is short.
-fn take_next<B: Batches>(batches: &mut B, number: u64, next: Next) -> Result<Taken, Stop>
-    requires open { GoesOn B.service (B.kept batches.old) }
+/// Takes what the reader gave into the open batch; Err where it is no line, or where memory is
+/// short.
+fn take_next<B: Batches>(batches: &mut B, number: u64, next: Next) -> Result<BatchEnd, Stop>
+    requires open { HasOpenBatch B.service (B.kept batches.old) }
     requires within { IfLine next (λ line. length line ≤ LINE_LIMIT) }
     requires later { B.last batches.old < number }
     requires few { number < 2 ^ 63 }
@@ -97,9 +98,9 @@ fn run_last<B: Batches, D: Delivers<B::Reply, O>, O>(
     }
 }
 
-/// Runs a server over the source to its end: the lines of an open batch are answered there, and stay unanswered where
-/// the source fails or its input is too long.
-pub fn run_lines<B: Batches, D: Delivers<B::Reply, O>, S: Source, O>(
+/// Runs a server over the source to its end: the lines of an open batch are answered there, and stay
+/// unanswered where the source fails or its input is too long.
+pub fn run_batches<B: Batches, D: Delivers<B::Reply, O>, S: Source, O>(
     alloc: Global,
     batches: &mut B,
     delivers: &D,
@@ -120,8 +121,8 @@ pub fn run_lines<B: Batches, D: Delivers<B::Reply, O>, S: Source, O>(
     loop {
         let next = reader.next(source);
         match take_next(batches, number, next) {
-            Ok(Taken::More) => number += 1,
-            Ok(Taken::Full) => match run_batch(batches, delivers, out) {
+            Ok(BatchEnd::Later) => number += 1,
+            Ok(BatchEnd::Here) => match run_batch(batches, delivers, out) {
                 Ok(()) => number += 1,
                 Err(stop) => return stop,
             },

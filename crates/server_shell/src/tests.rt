@@ -44,7 +44,8 @@ struct Outcome {
     shown: bool,
 }
 
-/// Runs `serve` with so many words; the first read gives at most `piece` bytes, as each later one does.
+/// Runs `serve` with so many words; the first read gives at most `piece` bytes, as each later one
+/// does.
 fn run<R: Threads + Wait + Sync>(
     rt: &R,
     alloc: Global,

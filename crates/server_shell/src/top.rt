@@ -8,7 +8,7 @@ ghost use Rattle.server_shell.specs.first_form.Lines.{line_of};
 use super::first_form::FirstForm;
 use super::outcome::Status;
 use super::printing::Printing;
-use super::run::run_lines;
+use super::run::run_batches;
 use std::alloc::Global;
 use std::sync::Wait;
 use std::thread::Threads;
@@ -42,5 +42,5 @@ pub fn serve<R: Threads + Wait + Sync, S: Source, K: Sink, G: Gate>(
         return Status::Usage;
     }
     let mut form = FirstForm::new(alloc);
-    run_lines(alloc, &mut form, &Printing { alloc }, source, sink)
+    run_batches(alloc, &mut form, &Printing { alloc }, source, sink)
 }

@@ -3,7 +3,7 @@
 
 ghost use Rattle.std.specs.Prelude.{◌≡◌};
 ghost use Rattle.server_shell.specs.Codes.{code_of};
-ghost use Rattle.vgram.specs.Endings.{line_at};
+ghost use Rattle.vgram.specs.Endings.{error_line};
 
 use server_shell::{Status, serve};
 use std::alloc::Global;
@@ -23,7 +23,7 @@ struct Ending {
 /// How the process ends at this status.
 fn ending_at(status: Status) -> Ending
     ensures number { result.number ≡ code_of status }
-    ensures line { result.line.now ≡ line_at status }
+    ensures line { result.line.now ≡ error_line status }
 {
     let line = match status {
         Status::Done => "",
@@ -40,7 +40,7 @@ fn ending_at(status: Status) -> Ending
 }
 
 /// The words of the command line; None where one of them is no text.
-fn words_of(rt: &(impl Env + Alloc<A = Global>)) -> Result<Option<Vec<String>>, Memory> {
+fn command_line(rt: &(impl Env + Alloc<A = Global>)) -> Result<Option<Vec<String>>, Memory> {
     let args = match env::args(rt) {
         Ok(args) => args,
         Err(error) if error.kind() == io::ErrorKind::OutOfMemory => return Err(Memory),
@@ -56,7 +56,7 @@ fn words_of(rt: &(impl Env + Alloc<A = Global>)) -> Result<Option<Vec<String>>, 
 fn main(rt: HostRuntime) -> ExitCode {
     let mut source = ReadSource::open(rt.stdin());
     let mut sink = WriteSink::open(rt.stdout());
-    let status = match words_of(&rt) {
+    let status = match command_line(&rt) {
         Ok(Some(words)) => serve(&rt, rt.alloc(), &words, &mut source, &mut sink, &Open),
         Ok(None) => Status::Usage,
         Err(Memory) => Status::Memory,

@@ -6,7 +6,8 @@ use Rattle.serde_json.specs.Data.{Data}
 use Rattle.serde_json.specs.Read.{read}
 use Rattle.server_shell.specs.first_form.Commands.{value_of}
 
-pub value_of-read : (line : List ℕ) (d : Data) → IsUtf8 line → read line ≡ Some d → value_of line ≡ Some d
+pub value_of-read : (line : List ℕ) (d : Data) → IsUtf8 line → read line ≡ Some d
+    → value_of line ≡ Some d
 value_of-read line d utf8 e = rw (is_utf8-from_IsUtf8 line utf8) e
 
 none_by : (b : Bool) (o : Option Data) → (b ≡ true → o ≡ None) → (if b then o else None) ≡ None

@@ -1,16 +1,17 @@
--- One turn of the loop: what the reader gave is taken into the open batch, and a batch that ended is run.
+-- One turn of the loop: what the reader gave is taken into the open batch, and a batch that ended
+-- is run.
 use Rattle.std.specs.Prelude.{◌≡◌, ◌≢◌, ℕ, ◌<◌, List, [], length, ◌⊎◌, None}
 use Rattle.vg_io.specs.declared.limits.TheConstants.{LINE_LIMIT}
 use Rattle.vg_io.specs.declared.lines.Next.{Next}
 use Rattle.vg_io.specs.declared.lines.Next.TheVariants as next
 use Rattle.vg_io.specs.Reader.{IfLine, finish_of}
 use Rattle.vg_io.specs.Faults.{faults_after}
-use Rattle.server_shell.specs.declared.batches.Taken.{Taken}
+use Rattle.server_shell.specs.declared.batches.BatchEnd.{BatchEnd}
 use Rattle.server_shell.specs.declared.outcome.Status.{Status}
 use Rattle.server_shell.specs.declared.outcome.Status.TheVariants as status
 use Rattle.server_shell.specs.declared.run.Stop.{Stop}
 use Rattle.server_shell.specs.declared.run.Stop.TheVariants as stop
-use Rattle.server_shell.specs.Service.{Service, Kept, TakesLine, RunsBatch}
+use Rattle.server_shell.specs.Service.{Service, BetweenLines, TakesRead, RunsBatch}
 use Rattle.server_shell.specs.Delivery.{Delivery}
 use Rattle.server_shell.specs.Served.{is_write_fault}
 
@@ -26,19 +27,19 @@ StopsBy (next.Line v) s = s ≡ stop.Now status.Memory
 module _ {S C L R : Type 0} (service : Service S C L R) where
   -- What the reader gave as the line of this number was taken; of a line past the limit the bytes
   -- aren't known.
-  pub record TakesNext (old new : Kept S L) (number : ℕ) (given : Next) (answer : Taken)
+  pub record TakesNext (old new : BetweenLines S L) (number : ℕ) (given : Next) (answer : BatchEnd)
       : Type 0 where
     pub is_line : finish_of given ≡ None
-    pub line : IfLine given (λ line. TakesLine service old new (service.read number line) answer)
+    pub line : IfLine given (λ line. TakesRead service old new (service.read number line) answer)
     pub long : given ≡ next.Long → (line : List ℕ) → LINE_LIMIT < length line
-        → TakesLine service old new (service.read number line) answer
+        → TakesRead service old new (service.read number line) answer
 
 -- What is kept and where replies go.
 pub record Hold (S L O : Type 0) : Type 0 where
-  pub kept : Kept S L
+  pub kept : BetweenLines S L
   pub out : O
 
-abbrev pub hold : {S L O : Type 0} → Kept S L → O → Hold S L O
+abbrev pub hold : {S L O : Type 0} → BetweenLines S L → O → Hold S L O
 hold kept out = record { kept = kept; out = out }
 
 module _ {S C L R O : Type 0} (service : Service S C L R) (delivery : Delivery O R) where
@@ -47,7 +48,8 @@ module _ {S C L R O : Type 0} (service : Service S C L R) (delivery : Delivery O
     pub replies : List R
     pub runs : RunsBatch service old.kept new.kept replies
     pub takes : delivery.takes old.out new.out replies
-    pub shows : delivery.shows old.out → delivery.shows new.out
+    pub shows : replies ≢ [] → delivery.shows new.out
+    pub keeps : delivery.shows old.out → delivery.shows new.out
     pub faults : delivery.faults new.out ≡ delivery.faults old.out
 
   -- Its replies weren't had, or a front of them was delivered.

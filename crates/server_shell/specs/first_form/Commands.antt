@@ -39,18 +39,25 @@ texts_at name d = option_and_then texts_of (option_and_then as_array (get name d
 abbrev pub put_row : Data → Option Command
 put_row d =
     if has_members 3 d
-    then option_and_then (λ uri. option_map (λ text. command.Put uri text) (text_at (codes "text") d)) (text_at (codes "uri") d)
+    then option_and_then
+    (λ uri. option_map (λ text. command.Put uri text) (text_at (codes "text") d))
+    (text_at (codes "uri") d)
     else None
 
 -- `do` and `entries`
 abbrev pub publish_row : Data → Option Command
-publish_row d = if has_members 2 d then option_map command.Publish (texts_at (codes "entries") d) else None
+publish_row d =
+    if has_members 2 d
+    then option_map command.Publish (texts_at (codes "entries") d)
+    else None
 
 -- `do`, `uri` and `tokens`
 abbrev pub try_row : Data → Option Command
 try_row d =
     if has_members 3 d
-    then option_and_then (λ uri. option_map (λ tokens. command.Try uri tokens) (texts_at (codes "tokens") d)) (text_at (codes "uri") d)
+    then option_and_then
+    (λ uri. option_map (λ tokens. command.Try uri tokens) (texts_at (codes "tokens") d))
+    (text_at (codes "uri") d)
     else None
 
 -- `do` alone
@@ -77,7 +84,7 @@ abbrev pub no_command : NoCommand
 no_command = record {}
 
 -- what a reader finds: a value, or that there is none; want of memory is free
-abbrev pub Finds : {T : Type 0} → Result T (Refused NoCommand) → Option T → Type 0
-Finds (Ok x) found = found ≡ Some x
-Finds (Err (refused.Fault fault)) found = found ≡ None
-Finds (Err refused.Memory) found = Unit {0}
+abbrev pub GivesIfThere : {T : Type 0} → Result T (Refused NoCommand) → Option T → Type 0
+GivesIfThere (Ok x) found = found ≡ Some x
+GivesIfThere (Err (refused.Fault fault)) found = found ≡ None
+GivesIfThere (Err refused.Memory) found = Unit {0}

@@ -25,12 +25,24 @@ with_version (Some v) ms = put (codes "version") (number_of v) ms
 -- the members beside the line's number
 abbrev pub members_of : Body → Members → Members
 members_of body.Staged ms = put (codes "reply") (string (codes "staged")) ms
-members_of (body.Published v d) ms = put (codes "version") (number_of v) (put (codes "documents") (number_of d) (put (codes "reply") (string (codes "published")) ms))
+members_of (body.Published v d) ms =
+    put (codes "version") (number_of v)
+    (put (codes "documents") (number_of d)
+    (put (codes "reply") (string (codes "published")) ms))
 members_of body.Ran ms = put (codes "reply") (string (codes "ran")) ms
 members_of (body.Match v uri rule result) ms =
-    put (codes "version") (number_of v) (put (codes "uri") (string (encode_utf8_all uri)) (put (codes "rule") (string (encode_utf8_all rule)) (put (codes "result") (string (encode_utf8_all result)) (put (codes "reply") (string (codes "match")) ms))))
-members_of (body.NoMatch v) ms = put (codes "version") (number_of v) (put (codes "reply") (string (codes "nomatch")) ms)
-members_of (body.Refused r v) ms = with_version v (put (codes "refusal") (string (name_of r)) (put (codes "reply") (string (codes "refused")) ms))
+    put (codes "version") (number_of v)
+    (put (codes "uri") (string (encode_utf8_all uri))
+    (put (codes "rule") (string (encode_utf8_all rule))
+    (put (codes "result") (string (encode_utf8_all result))
+    (put (codes "reply") (string (codes "match")) ms))))
+members_of (body.NoMatch v) ms =
+    put (codes "version") (number_of v)
+    (put (codes "reply") (string (codes "nomatch")) ms)
+members_of (body.Refused r v) ms =
+    with_version v
+    (put (codes "refusal") (string (name_of r))
+    (put (codes "reply") (string (codes "refused")) ms))
 members_of body.Memory ms = put (codes "reply") (string (codes "memory")) ms
 
 -- the JSON value of a reply

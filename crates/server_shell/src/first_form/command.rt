@@ -2,7 +2,7 @@
 ghost use Rattle.std.specs.Prelude.{◌≡◌, ◌==◌, IfOk, Some, None, Err, Ok};
 ghost use Rattle.serde_json.specs.View.{view, items_view};
 ghost use Rattle.vg_base.specs.declared.refused.Refused.TheVariants as refused;
-ghost use Rattle.server_shell.specs.first_form.Commands.{Finds, command_in, command_of, has_members, no_command, publish_row, put_row, row_of, run_row, text_at, text_of, texts_at, texts_of, try_row, value_of};
+ghost use Rattle.server_shell.specs.first_form.Commands.{GivesIfThere, command_in, command_of, has_members, no_command, publish_row, put_row, row_of, run_row, text_at, text_of, texts_at, texts_of, try_row, value_of};
 
 use serde_json::{Category, Value};
 use sqlite_items::Items;
@@ -34,7 +34,7 @@ pub type Unread = Refused<NoCommand>;
 
 /// The command of a line.
 pub fn read_command(alloc: Global, line: &[u8]) -> Result<Command, Unread>
-    ensures { Finds result (command_in line.now) }
+    ensures { GivesIfThere result (command_in line.now) }
 {
     let value = read_value(alloc, line)?;
     command_of(alloc, &value)
@@ -54,7 +54,7 @@ fn read_value(alloc: Global, line: &[u8]) -> Result<Value, Unread>
 }
 
 fn command_of(alloc: Global, value: &Value) -> Result<Command, Unread>
-    ensures { Finds result (command_of (view value.now)) }
+    ensures { GivesIfThere result (command_of (view value.now)) }
 {
     let Some(verb) = value.get("do").and_then(Value::as_str) else {
         return Err(Refused::Fault(NoCommand));
@@ -75,7 +75,7 @@ fn command_of(alloc: Global, value: &Value) -> Result<Command, Unread>
 }
 
 fn read_put(alloc: Global, value: &Value) -> Result<Command, Unread>
-    ensures { Finds result (put_row (view value.now)) }
+    ensures { GivesIfThere result (put_row (view value.now)) }
 {
     if !has_members(value, 3) {
         return Err(Refused::Fault(NoCommand));
@@ -86,7 +86,7 @@ fn read_put(alloc: Global, value: &Value) -> Result<Command, Unread>
 }
 
 fn read_publish(alloc: Global, value: &Value) -> Result<Command, Unread>
-    ensures { Finds result (publish_row (view value.now)) }
+    ensures { GivesIfThere result (publish_row (view value.now)) }
 {
     if !has_members(value, 2) {
         return Err(Refused::Fault(NoCommand));
@@ -96,7 +96,7 @@ fn read_publish(alloc: Global, value: &Value) -> Result<Command, Unread>
 }
 
 fn read_try(alloc: Global, value: &Value) -> Result<Command, Unread>
-    ensures { Finds result (try_row (view value.now)) }
+    ensures { GivesIfThere result (try_row (view value.now)) }
 {
     if !has_members(value, 3) {
         return Err(Refused::Fault(NoCommand));
@@ -107,7 +107,7 @@ fn read_try(alloc: Global, value: &Value) -> Result<Command, Unread>
 }
 
 fn read_run(value: &Value) -> Result<Command, Unread>
-    ensures { Finds result (run_row (view value.now)) }
+    ensures { GivesIfThere result (run_row (view value.now)) }
 {
     if has_members(value, 1) {
         Ok(Command::Run)
@@ -126,7 +126,7 @@ fn has_members(value: &Value, count: usize) -> bool
 }
 
 fn text_of(alloc: Global, value: &Value) -> Result<Text, Unread>
-    ensures { Finds result (text_of (view value.now)) }
+    ensures { GivesIfThere result (text_of (view value.now)) }
 {
     match value.as_str() {
         Some(text) => Ok(Text::of(alloc, text)?),
@@ -135,7 +135,7 @@ fn text_of(alloc: Global, value: &Value) -> Result<Text, Unread>
 }
 
 fn text_at(alloc: Global, value: &Value, name: &str) -> Result<Text, Unread>
-    ensures { Finds result (text_at name.now (view value.now)) }
+    ensures { GivesIfThere result (text_at name.now (view value.now)) }
 {
     match value.get(name) {
         Some(member) => text_of(alloc, member),
@@ -144,7 +144,7 @@ fn text_at(alloc: Global, value: &Value, name: &str) -> Result<Text, Unread>
 }
 
 fn texts_of(alloc: Global, values: &[Value]) -> Result<Items<Text>, Unread>
-    ensures { Finds result (texts_of (items_view values.now)) }
+    ensures { GivesIfThere result (texts_of (items_view values.now)) }
 {
     let mut texts = Items::new(alloc);
     for value in values {
@@ -154,7 +154,7 @@ fn texts_of(alloc: Global, values: &[Value]) -> Result<Items<Text>, Unread>
 }
 
 fn texts_at(alloc: Global, value: &Value, name: &str) -> Result<Items<Text>, Unread>
-    ensures { Finds result (texts_at name.now (view value.now)) }
+    ensures { GivesIfThere result (texts_at name.now (view value.now)) }
 {
     match value.get(name).and_then(Value::as_array) {
         Some(values) => texts_of(alloc, values.as_slice()),

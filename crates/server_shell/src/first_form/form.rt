@@ -1,7 +1,8 @@
 //! Reads a grammar text of the small form.
 ghost use Rattle.std.specs.Prelude.{◌≡◌, ◌≢◌, ◌++◌, ◌∷◌, [], ℕ, List, ◌↔◌, IsTrue, MatchOption, IfSome, IfOk, codes};
 ghost use Rattle.std.specs.List.{list_all, list_any, Contains};
-ghost use Rattle.server_shell.specs.first_form.Forms.{IsKey, IsName, IsWithout, Spells, SpellsRest, SpellsRule, alternatives_of, is_alternative, is_blank, is_letter, is_letter_or, parts_of};
+ghost use Rattle.server_shell.specs.code.TextCuts.{IsWithout, CutAtFirst};
+ghost use Rattle.server_shell.specs.first_form.Forms.{IsKey, IsFormName, SpellsForm, SpellsRest, SpellsRule, alternatives_of, is_alternative, is_plain_space, is_letter, is_letter_or, parts_of};
 
 use super::words::{are_same, words_in};
 use std::alloc::Global;
@@ -31,7 +32,7 @@ fn strip<'a>(text: &'a [char], front: &[char]) -> Option<&'a [char]>
 /// What stands before the first `c` and behind it.
 fn split_at_first(text: &[char], c: char) -> Option<(&[char], &[char])>
     ensures { MatchOption result (IsWithout c text.now)
-        (λ p. IsWithout c p.0.now × (text.now ≡ p.0.now ++ c ∷ p.1.now)) }
+        (λ p. CutAtFirst c text.now p.0.now p.1.now) }
 {
     let at = text.iter().position(|x| *x == c)?;
     Some((&text[..at], &text[at + 1..]))
@@ -62,13 +63,13 @@ fn all_letters_or(text: &[char], other: char) -> bool
 }
 
 fn all_spaces(text: &[char]) -> bool
-    ensures { result ≡ list_all is_blank text.now }
+    ensures { result ≡ list_all is_plain_space text.now }
 {
     text.iter().all(|c| *c == ' ')
 }
 
 fn is_name(name: &[char]) -> bool
-    ensures { IsTrue result ↔ IsName name.now }
+    ensures { IsTrue result ↔ IsFormName name.now }
 {
     all_letters(name) && !name.is_empty() && name.len() <= 64
 }
@@ -135,8 +136,8 @@ fn read_rule(text: &[char]) -> Option<Form<'_>>
 /// The form of a text, where it has it.
 pub fn read_text(text: &[char]) -> Option<Form<'_>>
     ensures { MatchOption result
-        ((name alternatives : List ℕ) → ¬ Spells text.now name alternatives)
-        (λ form. Spells text.now form.name.now form.alternatives.now) }
+        ((name alternatives : List ℕ) → ¬ SpellsForm text.now name alternatives)
+        (λ form. SpellsForm text.now form.name.now form.alternatives.now) }
 {
     match strip(text, &HEAD) {
         Some(rest) => read_rule(rest),

@@ -10,8 +10,6 @@ use vg_base::{Memory, Refused};
 /// What is heard in a line.
 #[derive(Drop)]
 pub enum Heard {
-    /// Nothing: the line is blank.
-    Blank,
     /// The line is past the limit.
     Long,
     /// No command.
@@ -26,17 +24,17 @@ fn is_blank_line(line: &[u8]) -> bool
     line.iter().all(|b| *b == 32 || *b == 9 || *b == 13)
 }
 
-/// What is heard in a line within the limit.
-pub fn hear(alloc: Global, line: &[u8]) -> Result<Heard, Memory>
+/// What is heard in a line within the limit; nothing in a blank one.
+pub fn hear(alloc: Global, line: &[u8]) -> Result<Option<Heard>, Memory>
     requires { length line.now ≤ LINE_LIMIT }
     ensures { IfOk result (λ heard. heard ≡ hears line.now) }
 {
     if is_blank_line(line) {
-        return Ok(Heard::Blank);
+        return Ok(None);
     }
     match read_command(alloc, line) {
-        Ok(command) => Ok(Heard::Said(command)),
-        Err(Refused::Fault(NoCommand)) => Ok(Heard::Unknown),
+        Ok(command) => Ok(Some(Heard::Said(command))),
+        Err(Refused::Fault(NoCommand)) => Ok(Some(Heard::Unknown)),
         Err(Refused::Memory) => Err(Memory),
     }
 }

@@ -3,12 +3,12 @@ ghost use Rattle.std.specs.Prelude.{◌≡◌, ◌≢◌, ℕ, ◌+◌, ◌<◌,
 ghost use Rattle.vg_io.specs.declared.limits.TheConstants.{LINE_LIMIT};
 ghost use Rattle.server_shell.specs.first_form.State.{State, start};
 ghost use Rattle.server_shell.specs.first_form.Lines.{line_of};
-ghost use Rattle.server_shell.specs.code.Keeping.{AnswersOne, replies_in};
+ghost use Rattle.server_shell.specs.code.Keeping.{AnswersOne};
 
 use super::hearing::{Heard, hear};
 use super::reply::{Reply, reply_text};
 use super::server::Server;
-use crate::batches::{Batches, Taken};
+use crate::batches::{BatchEnd, Batches};
 use crate::printing::Printed;
 use std::alloc::Global;
 use std::marker::Model;
@@ -31,42 +31,31 @@ pub struct FirstForm {
 }
 
 impl Model for FirstForm {
-    ghost use Rattle.std.specs.Prelude.{◌+◌, ◌<◌, ◌≤◌, ◌^◌, length};
-    ghost use Rattle.server_shell.specs.code.Keeping.{Keeping, lines_in};
+    ghost use Rattle.std.specs.Prelude.{◌+◌, ◌<◌, ◌≤◌, ◌^◌, length, option_to_list};
+    ghost use Rattle.server_shell.specs.code.Keeping.{Keeping};
 
     ghost Value = { Keeping };
 
     ghost view = { λ f. record {
-      kept = record { stands = f.server; pending = lines_in f.pending };
+      kept = record { stands = f.server; pending = option_to_list f.pending };
       last = f.last;
     } };
 
-    ghost invariant = { λ f. (f.server.version + length (lines_in f.pending) ≤ f.last)
+    ghost invariant = { λ f. (f.server.version + length (option_to_list f.pending) ≤ f.last)
         × (f.last < 2 ^ 63) };
 }
 
-/// The reply to a line, where it has one.
-fn answer_line(server: &mut Server, line: HeardLine) -> Option<Reply>
+/// The reply to a line.
+fn answer_line(server: &mut Server, line: HeardLine) -> Reply
     requires { server.old.version < 2 ^ 63 }
     ensures answers { AnswersOne server.old server.new line result }
     ensures rises { server.new.version ≤ server.old.version + 1 }
 {
     let HeardLine { number, heard } = line;
-    match server.answer(heard) {
-        Some(body) => Some(Reply { line: number, body }),
-        None => None,
+    Reply {
+        line: number,
+        body: server.answer(heard),
     }
-}
-
-/// A list of one reply or none.
-fn listed(alloc: Global, reply: Option<Reply>) -> Result<Vec<Reply>, Memory>
-    ensures { IfOk result (λ replies. replies.items ≡ replies_in reply) }
-{
-    let mut replies = Vec::new(alloc);
-    if let Some(reply) = reply {
-        replies.push(reply)?;
-    }
-    Ok(replies)
 }
 
 impl FirstForm {
@@ -92,7 +81,7 @@ impl Batches for FirstForm {
 
     type Count = u64;
 
-    type Line = HeardLine;
+    type Item = HeardLine;
 
     ghost service = { first_form };
 
@@ -100,20 +89,25 @@ impl Batches for FirstForm {
 
     ghost last = { λ f. f.last };
 
-    fn take(&mut self, number: u64, line: &[u8]) -> Result<Taken, Memory> {
+    fn take(&mut self, number: u64, line: &[u8]) -> Result<BatchEnd, Memory> {
         let heard = hear(self.alloc, line)?;
-        self.pending = Some(HeardLine { number, heard });
         self.last = number;
-        Ok(Taken::Full)
+        match heard {
+            None => Ok(BatchEnd::Later),
+            Some(heard) => {
+                self.pending = Some(HeardLine { number, heard });
+                Ok(BatchEnd::Here)
+            }
+        }
     }
 
-    fn take_long(&mut self, number: u64) -> Result<Taken, Memory> {
+    fn take_long(&mut self, number: u64) -> Result<BatchEnd, Memory> {
         self.pending = Some(HeardLine {
             number,
             heard: Heard::Long,
         });
         self.last = number;
-        Ok(Taken::Full)
+        Ok(BatchEnd::Here)
     }
 
     fn is_empty(&self) -> bool {
@@ -121,13 +115,11 @@ impl Batches for FirstForm {
     }
 
     fn run(&mut self) -> Result<Vec<Reply>, Memory> {
-        match self.pending.take() {
-            None => Ok(Vec::new(self.alloc)),
-            Some(line) => {
-                let reply = answer_line(&mut self.server, line);
-                listed(self.alloc, reply)
-            }
+        let mut replies = Vec::new(self.alloc);
+        if let Some(line) = self.pending.take() {
+            replies.push(answer_line(&mut self.server, line))?;
         }
+        Ok(replies)
     }
 }
 

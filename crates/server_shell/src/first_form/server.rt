@@ -1,7 +1,7 @@
 //! What the server keeps, and its reply to a line.
 ghost use Rattle.std.specs.Prelude.{◌≡◌, ◌≢◌, ℕ, ◌+◌, ◌^◌, ◌<◌, ◌≤◌, List, length, Some, Ok, Err, IfOk, IfSome, OnErr, IsTrue, MatchOption, [], ◌∷◌, ◌↔◌};
 ghost use Rattle.server_shell.specs.declared.first_form.command.Command.TheVariants as command;
-ghost use Rattle.server_shell.specs.first_form.Forms.{IsKey, IsText};
+ghost use Rattle.server_shell.specs.first_form.Forms.{IsKey, IsFormText};
 ghost use Rattle.server_shell.specs.first_form.Replies.{CanPublish, CanPut, CanTry, Either, HeardReplies, MatchesOver, Replies, TriesOver, not_built};
 ghost use Rattle.server_shell.specs.first_form.State.{after_command, after_heard, start};
 ghost use Rattle.server_shell.specs.first_form.Words.{words_of};
@@ -33,14 +33,14 @@ struct Document {
 
 impl Model for Document {
     ghost use Rattle.std.specs.Prelude.{List, ℕ};
-    ghost use Rattle.server_shell.specs.first_form.State.{Doc};
-    ghost use Rattle.server_shell.specs.first_form.Forms.{IsText};
+    ghost use Rattle.server_shell.specs.first_form.State.{KeyedText};
+    ghost use Rattle.server_shell.specs.first_form.Forms.{IsFormText};
 
-    ghost Value = { Doc };
+    ghost Value = { KeyedText };
 
     ghost view = { λ d. record { uri = d.uri; text = d.text.items } };
 
-    ghost invariant = { λ d. IsText d.text.items };
+    ghost invariant = { λ d. IsFormText d.text.items };
 }
 
 /// What is staged and published.
@@ -106,8 +106,8 @@ impl Document {
 
 /// The characters of a text of the form.
 fn read_characters(alloc: Global, text: &Text) -> Result<Option<Vec<char>>, Memory>
-    ensures { IfOk result (λ r. MatchOption r (¬ IsText text.now)
-        (λ v. IsText text.now × (v.items ≡ text.now))) }
+    ensures { IfOk result (λ r. MatchOption r (¬ IsFormText text.now)
+        (λ v. IsFormText text.now × (v.items ≡ text.now))) }
 {
     if text.as_str().len() > TEXT_LIMIT {
         return Ok(None);
@@ -129,8 +129,8 @@ fn is_key_text(alloc: Global, uri: &Text) -> Result<bool, Memory>
 
 /// The document of a put, where its key and its text are of the form.
 fn read_put(alloc: Global, uri: Text, text: Text) -> Result<Option<Document>, Memory>
-    ensures { IfOk result (λ r. MatchOption r (IsKey uri → IsText text → ⊥)
-        (λ d. IsKey uri × IsText text × (d ≡ record { uri = uri; text = text }))) }
+    ensures { IfOk result (λ r. MatchOption r (IsKey uri → IsFormText text → ⊥)
+        (λ d. IsKey uri × IsFormText text × (d ≡ record { uri = uri; text = text }))) }
 {
     if !is_key_text(alloc, &uri)? {
         return Ok(None);
@@ -269,19 +269,17 @@ impl Server {
         }
     }
 
-    /// The reply to what was heard in a line; none to a blank one.
-    pub fn answer(&mut self, heard: Heard) -> Option<Body>
+    /// The reply to what was heard in a line.
+    pub fn answer(&mut self, heard: Heard) -> Body
         requires { self.old.version < 2 ^ 63 }
-        ensures reply { MatchOption result (heard ≡ Heard.Blank) (HeardReplies self.old heard) }
-        ensures after { MatchOption result (self.new ≡ self.old)
-            (λ body. self.new ≡ after_heard self.old heard body) }
+        ensures reply { HeardReplies self.old heard result }
+        ensures after { self.new ≡ after_heard self.old heard result }
         ensures rises { self.new.version ≤ self.old.version + 1 }
     {
         match heard {
-            Heard::Blank => None,
-            Heard::Long => Some(LINE_LONG),
-            Heard::Unknown => Some(NOT_BUILT),
-            Heard::Said(command) => Some(self.apply(command)),
+            Heard::Long => LINE_LONG,
+            Heard::Unknown => NOT_BUILT,
+            Heard::Said(command) => self.apply(command),
         }
     }
 }

@@ -1,9 +1,9 @@
-//! A server of the tests' own whose batches have several lines: a batch ends at a line of one byte, and the reply to each
-//! line is its number.
-ghost use Rattle.std.specs.Prelude.{◌≡◌, ℕ, ◌==◌, List, length};
-ghost use Rattle.server_shell.specs.Service.{Service, Kept};
+//! A server of the tests' own whose batches have several lines: a batch ends at a line of one byte,
+//! and the reply to each line that has a byte is its number.
+ghost use Rattle.std.specs.Prelude.{◌≡◌, ℕ, ◌==◌, List, length, None, Some, if◌then◌else◌};
+ghost use Rattle.server_shell.specs.Service.{Service, BetweenLines};
 
-use crate::{Batches, Counting, Status, Taken, run_lines};
+use crate::{BatchEnd, Batches, Counting, Status, run_batches};
 use std::alloc::Global;
 use std::mem;
 use std::test::Fail;
@@ -31,11 +31,12 @@ impl Batches for Notes {
 
     type Count = u64;
 
-    type Line = Note;
+    type Item = Note;
 
     ghost service = { record {
       start = 0;
-      read = λ number line. record { number = number; ends = length line == 1 };
+      read = λ number line. if length line == 0 then None
+          else Some (record { number = number; ends = length line == 1 });
       division = record { first = 0; next = λ count line. count; ends = λ count line. line.ends };
       answers = λ stands batch replies. replies ≡ batch;
       after = λ stands batch replies. stands;
@@ -45,24 +46,27 @@ impl Batches for Notes {
 
     ghost last = { λ notes. notes.last };
 
-    fn take(&mut self, number: u64, line: &[u8]) -> Result<Taken, Memory> {
+    fn take(&mut self, number: u64, line: &[u8]) -> Result<BatchEnd, Memory> {
+        self.last = number;
+        if line.is_empty() {
+            return Ok(BatchEnd::Later);
+        }
         let ends = line.len() == 1;
         self.pending.push(Note { number, ends })?;
-        self.last = number;
         if ends {
-            Ok(Taken::Full)
+            Ok(BatchEnd::Here)
         } else {
-            Ok(Taken::More)
+            Ok(BatchEnd::Later)
         }
     }
 
-    fn take_long(&mut self, number: u64) -> Result<Taken, Memory> {
+    fn take_long(&mut self, number: u64) -> Result<BatchEnd, Memory> {
         self.pending.push(Note {
             number,
             ends: false,
         })?;
         self.last = number;
-        Ok(Taken::More)
+        Ok(BatchEnd::Later)
     }
 
     fn is_empty(&self) -> bool {
@@ -74,7 +78,8 @@ impl Batches for Notes {
     }
 }
 
-/// How a run over this input ended, and how many replies were delivered; the read behind so many fails.
+/// How a run over this input ended, and how many replies were delivered; the read behind so many
+/// fails.
 fn run(alloc: Global, input: &[u8], failing: u64) -> Result<(Status, u64), Memory> {
     let mut source = MemSource::open(
         Vec::from_slice(alloc, input)?,
@@ -87,7 +92,7 @@ fn run(alloc: Global, input: &[u8], failing: u64) -> Result<(Status, u64), Memor
         alloc,
     };
     let mut count = 0;
-    let status = run_lines(alloc, &mut notes, &Counting, &mut source, &mut count);
+    let status = run_batches(alloc, &mut notes, &Counting, &mut source, &mut count);
     Ok((status, count))
 }
 
@@ -99,6 +104,7 @@ fn answers_pending_lines_at_the_end_alone(rt: HostRuntime) -> Result<(), Fail> {
         (Status::Done, 6)
     );
     assert_eq!(rt; run(alloc, b"ab\n.\nab\nab", 1000)?, (Status::Done, 4));
+    assert_eq!(rt; run(alloc, b"\nab\n\n.\n\n", 1000)?, (Status::Done, 2));
     assert_eq!(rt; run(alloc, b"ab\n.\nab\nab\n", 9)?, (Status::ReadFault, 2));
     assert_eq!(rt; run(alloc, b"", 1000)?, (Status::Done, 0));
     Ok(())

@@ -1,3 +1,4 @@
+-- The number of members, as the JSON value has it.
 use Rattle.std.proofs.Common.{nat_eq, false, sym, ap, ◌∙◌, ◌==◌}
 use Rattle.std.specs.Option.{option_map_or}
 use Rattle.serde_json.specs.Events.{members_len}
@@ -6,5 +7,6 @@ use Rattle.server_shell.proofs.first_form.command.has_members.Goals as goal
 
 pub returns-in-Some : goal.returns-in-Some
 returns-in-Some c =
-    ap (λ k. nat_eq k c.args.count) (c.len.ensures.len ∙ sym (members_len-members_view c.in-Some.members.now.entries))
+    ap (λ k. nat_eq k c.args.count) (c.len.ensures.len
+    ∙ sym (members_len-members_view c.in-Some.members.now.entries))
     ∙ ap (λ o. option_map_or (λ ms. members_len ms == c.args.count) o false) c.in-Some.ensures

@@ -1,3 +1,4 @@
+-- A list of one entry is its first.
 use Rattle.std.proofs.Common.{◌≡◌, ◌∷◌, [], ℕ, List, refl, sym, ap, ◌∙◌, length, get_or, arith}
 use Rattle.std.proofs.lemmas.Bool.Decides.{Decides-eqb}
 use Rattle.std.proofs.lemmas.Slice.Eq.{slice_eq-Decides}
@@ -14,6 +15,10 @@ first x y e = cc
 
 pub returns-then-entries-eq1 : goal.returns-then-entries-eq1
 returns-then-entries-eq1 c =
-    let same = slice_eq-Decides Decides-eqb c.index-entries-0.result c.args.uri.now c.eq.result c.eq.ensures in
-    let one = only c.args.entries.now c.index-entries-0.result c.if-entries-eq1.true ∙ ap (λ (x : List ℕ). x ∷ []) (sym c.index-entries-0.is) in
-    (λ h. one ∙ ap (λ (x : List ℕ). x ∷ []) (same.0 h), λ e. same.1 (first c.index-entries-0.result c.args.uri.now (sym one ∙ e)))
+    let same = slice_eq-Decides Decides-eqb c.index-entries-0.result c.args.uri.now c.eq.result
+    c.eq.ensures in
+    let one = only c.args.entries.now c.index-entries-0.result c.if-entries-eq1.true
+    ∙ ap (λ (x : List ℕ). x ∷ []) (sym c.index-entries-0.is) in (
+      λ h. one ∙ ap (λ (x : List ℕ). x ∷ []) (same.0 h),
+      λ e. same.1 (first c.index-entries-0.result c.args.uri.now (sym one ∙ e)),
+    )

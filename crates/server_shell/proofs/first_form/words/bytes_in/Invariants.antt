@@ -1,3 +1,4 @@
+-- The bytes of the words so far, up to one past the most.
 use Rattle.std.proofs.Common.{◌≡◌, ◌+◌, min, take}
 use Rattle.server_shell.specs.first_form.Words.{bytes_in}
 use Rattle.server_shell.proofs.first_form.words.bytes_in.Given as goal

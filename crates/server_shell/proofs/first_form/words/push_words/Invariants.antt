@@ -1,3 +1,4 @@
+-- Words added, and those of the rest.
 use Rattle.std.proofs.Common.{◌≡◌, ◌++◌, length}
 use Rattle.server_shell.specs.first_form.Words.{words_in}
 use Rattle.server_shell.proofs.first_form.words.push_words.Given as goal
