@@ -1,8 +1,9 @@
 -- How a run ends: from the invariant to what was answered of the input.
 --
--- `Ahead` says which batches stand at the front of the lines so far and of those to come: the answered ones, and perhaps the
--- one at hand. Each `ends_` lemma is one ending: nothing open at the end of input, an open batch that is answered there, a
--- source that fails or gives too much, and replies that weren't had or delivered.
+-- `Ahead` says which batches stand at the front of the lines so far and of those to come: the
+-- answered ones, and perhaps the one at hand. Each `ends_` lemma is one ending: nothing open at the
+-- end of input, an open batch that is answered there, a source that fails or gives too much, and
+-- replies that weren't had or delivered.
 use Rattle.std.proofs.Common.{◌≡◌, ◌≢◌, ℕ, ◌+◌, List, [], ◌∷◌, ◌++◌, Bool, IsTrue, None, Some, length, refl, sym, ap, ◌∙◌, subst, append_assoc, append-nil, inl, inr, IfSome}
 use Rattle.std.specs.declared.option.Option.{Option}
 use Rattle.server_shell.specs.Runs.{Runs}

@@ -1,6 +1,7 @@
--- The map, in reading order. `ReplyLines` (lines of replies). Of the loop: `Divisions` (lists in batches),
--- `Runs` (one more batch), `LinesSoFar` (bytes and lines), `Progress` (the loop's invariant), `Ending` (what it comes to),
--- `Counts` (bytes taken), `Sources` (what is promised of the source), `Writing` (all that a run did).
+-- The map, in reading order. `ReplyLines` (lines of replies). Of the loop: `Divisions` (lists in
+-- batches), `Runs` (one more batch), `LinesSoFar` (bytes and lines), `Progress` (the loop's
+-- invariant), `Ending` (what it comes to), `Counts` (bytes taken), `Sources` (what is promised of
+-- the source), `Writing` (all that a run did).
 pub mod ReplyLines
 pub mod Divisions
 pub mod Runs

@@ -1,9 +1,10 @@
 -- How the lines that a reader gave so far stand at the front of the input.
 --
--- `Given` is the invariant: the lines are all at the front, each with its line feed, and what is to come stands behind them;
--- or they are all lines of the input, the last without its line feed. `given_more` adds a line. The rest says what this comes
--- to where a run ends: `all_read` at the end of input, `whole_read` where what was taken and not given has no line feed, and
--- `front_read` wherever else.
+-- `Given` is the invariant: the lines are all at the front, each with its line feed, and what is to
+-- come stands behind them; or they are all lines of the input, the last without its line feed.
+-- `given_more` adds a line. The rest says what this comes to where a run ends: `all_read` at the
+-- end of input, `whole_read` where what was taken and not given has no line feed, and `front_read`
+-- wherever else.
 use Rattle.std.proofs.Common.{◌≡◌, ℕ, List, [], ◌∷◌, ◌++◌, Bool, true, false, IsTrue, None, Some, length, ◌⊎◌, refl, sym, ap, ◌∙◌, subst, append_assoc, append-nil, arith, inl, inr, length-append, IfSome}
 use Rattle.std.specs.declared.option.Option.{Option}
 use Rattle.std.specs.Io.KnownBytes.{Consumes, IsAtEnd, prepend_known}
@@ -17,7 +18,8 @@ unfoldable pub IsFed : List ℕ → List (List ℕ) → Type 0
 IsFed text lines = (rest : List ℕ) → (lines_of (text ++ rest) ≡ lines ++ lines_of rest)
     × (whole_lines_of (text ++ rest) ≡ lines ++ whole_lines_of rest)
 
--- the lines stand at the front of all bytes, and ys is left; or they are all, the last with no line feed
+-- the lines stand at the front of all bytes, and ys is left; or they are all, the last with no line
+-- feed
 pub data LinesInFront (xs ys : List ℕ) (ended : Bool) (lines : List (List ℕ)) : Type 0 where
   fed : ended ≡ false → (text : List ℕ) → IsFed text lines → xs ≡ text ++ ys
       → LinesInFront xs ys ended lines
@@ -192,7 +194,8 @@ whole_read {input} {now} {lines} left g going leaves =
 
 -- ---- wherever a run ends
 
--- the lines stand at the front of what was taken, or they are all, where the source was read to its end
+-- the lines stand at the front of what was taken, or they are all, where the source was read to its
+-- end
 pub record ReadsFront (input : List ℕ) (after : Option (List ℕ)) (ended : Bool)
     (given : List (List ℕ)) : Type 0 where
   pub taken : List ℕ

@@ -1,8 +1,9 @@
 -- How far a run has come.
 --
--- `Progress` is the loop's invariant: the lines so far (`LinesSoFar`), divided into batches that were answered and the lines
--- of the open batch (`Divisions`), the run over those batches, and the delivery of their replies. `line_taken` adds a line to
--- the open batch, `batch_run` answers a batch that a line ended.
+-- `Progress` is the loop's invariant: the lines so far (`LinesSoFar`), divided into batches that
+-- were answered and the lines of the open batch (`Divisions`), the run over those batches, and the
+-- delivery of their replies. `line_taken` adds a line to the open batch, `batch_run` answers a
+-- batch that a line ended.
 use Rattle.std.proofs.Common.{◌≡◌, ◌≢◌, ℕ, ◌+◌, Bool, true, false, IsTrue, List, [], ◌∷◌, ◌++◌, None, length, refl, sym, ap, ◌∙◌, subst, append_assoc, append-nil, arith, length-append, Some, option_to_list}
 use Rattle.std.specs.declared.option.Option.{Option}
 use Rattle.vg_io.specs.Reader.{Intake, ReaderState, GivesNext}
@@ -18,7 +19,8 @@ use Rattle.server_shell.proofs.Divisions.{DividesFront, divides_none, divides_mo
 use Rattle.server_shell.proofs.LinesSoFar.{Given, given_none, given_more}
 use Rattle.server_shell.proofs.Runs.{Runs-more, read_lines-append}
 
--- the reader and its source, where replies go, what the server keeps, and the number of the next line
+-- the reader and its source, where replies go, what the server keeps, and the number of the next
+-- line
 pub record Moment (S L O : Type 0) : Type 0 where
   pub intake : Intake
   pub hold : Hold S L O
@@ -36,7 +38,8 @@ shown_more before [] was keeps shows some =
 shown_more before (r ∷ rs) was keeps shows some = shows (λ e. cc)
 
 module _ {S C L R O : Type 0} (service : Service S C L R) (delivery : Delivery O R) where
-  -- the lines so far are the lines of answered batches and those of the open batch, of which `Is` holds
+  -- the lines so far are the lines of answered batches and those of the open batch, of which `Is`
+  -- holds
   pub record Progress (Is : C → List L → Type 0) (first : Outside O)
       (now : Moment S L O) : Type 0 where
     pub lines : List (List ℕ)

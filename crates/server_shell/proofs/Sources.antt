@@ -1,7 +1,7 @@
 -- What the reader's answers say of the source, over a whole run.
 --
--- `SourceSoFar` holds of each moment of the loop and after each answer (`so_far_next`); `Cause` says what ended the run, and
--- `stopped` makes of both what a run promises of its source.
+-- `SourceSoFar` holds of each moment of the loop and after each answer (`so_far_next`); `Cause`
+-- says what ended the run, and `stopped` makes of both what a run promises of its source.
 use Rattle.std.proofs.Common.{◌≡◌, ◌≢◌, ℕ, ◌+◌, ◌<◌, ◌≤◌, [], Bool, true, false, IsTrue, None, Some, IsSome, is_some, ◌⊎◌, inl, inr, refl, sym, ap, ◌∙◌, subst, arith, IfSome, if◌then◌else◌}
 use Rattle.std.specs.declared.option.Option.{Option}
 use Rattle.std.proofs.KnownBytes.{Consumes-nil}

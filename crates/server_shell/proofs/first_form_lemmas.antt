@@ -1,5 +1,5 @@
--- Lemmas for the first form, which go with it: JSON values of lines, words, cuts of texts, the small
--- form, prefixes, and one reply a line.
+-- Lemmas for the first form, which go with it: JSON values of lines, words, cuts of texts, the
+-- small form, prefixes, and one reply a line.
 pub mod Reading
 pub mod TextWords
 pub mod Cuts

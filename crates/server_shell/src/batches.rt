@@ -36,7 +36,8 @@ pub trait Batches {
     /// The number of the last line that was taken, or 0.
     ghost last: { Self → ℕ };
 
-    /// Takes a line into the open batch; a blank one leaves it as it is. At Err nothing is said of the server.
+    /// Takes a line into the open batch; a blank one leaves it as it is. At Err nothing is said of
+    /// the server.
     fn take(&mut self, number: u64, line: &[u8]) -> Result<BatchEnd, Memory>
         requires open { HasOpenBatch service (kept self.old) }
         requires within { length line.now ≤ LINE_LIMIT }

@@ -98,8 +98,8 @@ fn run_last<B: Batches, D: Delivers<B::Reply, O>, O>(
     }
 }
 
-/// Runs a server over the source to its end: the lines of an open batch are answered there, and stay
-/// unanswered where the source fails or its input is too long.
+/// Runs a server over the source to its end: the lines of an open batch are answered there, and
+/// stay unanswered where the source fails or its input is too long.
 pub fn run_batches<B: Batches, D: Delivers<B::Reply, O>, S: Source, O>(
     alloc: Global,
     batches: &mut B,

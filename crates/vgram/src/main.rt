@@ -15,13 +15,13 @@ use vg_io::{Open, ReadSource, WriteSink};
 
 /// How the process ends: its exit status, and the line on standard error, which is empty for none.
 #[derive(Drop)]
-struct Ending {
+struct Exit {
     number: u8,
     line: &'static str,
 }
 
 /// How the process ends at this status.
-fn ending_at(status: Status) -> Ending
+fn ending_at(status: Status) -> Exit
     ensures number { result.number ≡ code_of status }
     ensures line { result.line.now ≡ error_line status }
 {
@@ -33,7 +33,7 @@ fn ending_at(status: Status) -> Ending
         Status::Memory => "vgram: out of memory",
         Status::InputOver => "vgram: input too long",
     };
-    Ending {
+    Exit {
         number: status.code(),
         line,
     }

@@ -1,4 +1,5 @@
--- Each way out of the loop, and each turn of it, by the lemmas of `Progress`, `Sources` and `Writing`.
+-- Each way out of the loop, and each turn of it, by the lemmas of `Progress`, `Sources` and
+-- `Writing`.
 use Rattle.std.proofs.Common.{◌≡◌, ℕ, ◌+◌, ◌<◌, ◌≤◌, [], length, None, false, Err, refl, ap, ◌∙◌, subst, arith}
 use Rattle.vg_io.specs.Reader.{ReaderState, reading_from}
 use Rattle.vg_io.specs.declared.lines.Next.TheVariants as next
