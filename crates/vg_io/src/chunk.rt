@@ -86,7 +86,7 @@ fn read_front<S: Source>(source: &mut S, buf: &mut [u8], most: usize) -> Result<
     source.read(&mut buf[..room])
 }
 
-/// AddsPart a part of the line, and says how many bytes stood before its line feed.
+/// Adds a part of the line, and says how many bytes stood before its line feed.
 fn move_part(bytes: &[u8], line: &mut Gathered) -> Result<Option<usize>, AllocError>
     ensures { IfOk result (λ count. MovesPart LINE_LIMIT bytes.now count line.old line.new) }
 {
