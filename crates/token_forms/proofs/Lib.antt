@@ -3,6 +3,6 @@ pub mod WordLemmas
 -- what words cost (`count_words`, `words_fit`)
 pub mod CountLemmas
 -- keys: one cutting, and the loops over signs (`keys_are_one`)
-mod KeyLemmas
+pub mod KeyLemmas
 -- signs are of ASCII, so bytes are characters (`count_keys`, `keys_of`)
 mod KeyBytes

@@ -1,0 +1,91 @@
+use crate::read_document;
+use std::alloc::{AllocError, Global};
+use std::process::Abort;
+use std::test::Fail;
+use vg_base::Text;
+
+/// How many rules a text has, or why it is refused.
+fn answer(alloc: Global, text: &Text) -> Result<String, AllocError> {
+    match read_document(alloc, text) {
+        Ok(document) => {
+            let rules = document.rules.len();
+            format!(in alloc; "{rules}")
+        }
+        Err(refused) => format!(in alloc; "{refused}"),
+    }
+}
+
+/// The text behind the header.
+fn expect(rt: &impl Abort, alloc: Global, rest: &str, want: &str) -> Result<(), Fail> {
+    let text = format!(in alloc; "#ABNF 1.0;{rest}")?;
+    let found = answer(alloc, &Text::of(alloc, text.as_str())?)?;
+    assert_eq!(rt; found.as_str(), want, "{rest:?}");
+    Ok(())
+}
+
+#[test]
+fn documents_are_read(rt: HostRuntime) -> Result<(), Fail> {
+    let alloc = rt.alloc();
+    expect(&rt, alloc, "", "0")?;
+    expect(&rt, alloc, "root $r;$r = a \"b c\" <0-1 /0.5/>;", "1")?;
+    expect(&rt, alloc, "mode dtmf;$r = 1 2 star <65535>;", "1")?;
+    expect(&rt, alloc, "base <a>;$r = $<b#c>~<t> | / .5 / $NULL;", "1")?;
+    expect(&rt, alloc, "$r = $<b#caf%C3%A9>;", "1")?;
+    expect(
+        &rt,
+        alloc,
+        "tag-format <semantics/1.0>;$r = {out = 1};",
+        "1",
+    )?;
+    expect(
+        &rt,
+        alloc,
+        "tag-format <semantics/1.0-literals>;$r = {9 out = };",
+        "1",
+    )?;
+    expect(&rt, alloc, "$r = {out = };", "1")?;
+    expect(&rt, alloc, "lexicon <a>;lexicon <b>;$r = a;$s = b;", "2")
+}
+
+#[test]
+fn each_fault_has_its_name_and_place(rt: HostRuntime) -> Result<(), Fail> {
+    let alloc = rt.alloc();
+    expect(&rt, alloc, "mode voice;mode dtmf;", "DeclaredTwice at 1:22")?;
+    expect(&rt, alloc, "$r = a;$s = a;$r = b;", "RuleTwice at 1:25")?;
+    expect(&rt, alloc, "$VOID = a;", "Reserved at 1:11")?;
+    expect(&rt, alloc, "$r = a <3-2>;", "RepeatOrder at 1:18")?;
+    expect(&rt, alloc, "$r = a <65536>;", "RepeatLarge at 1:18")?;
+    expect(&rt, alloc, "$r = /x/ a;", "BadWeight at 1:16")?;
+    expect(&rt, alloc, "$r = /./ a;", "BadWeight at 1:16")?;
+    expect(&rt, alloc, "$r = a <1 /1.1/>;", "BadWeight at 1:18")?;
+    expect(&rt, alloc, "mode dtmf;$r = 1 x;", "BadKey at 1:28")?;
+    expect(&rt, alloc, "$r = $<a b>;", "BadUri at 1:16")?;
+    expect(&rt, alloc, "$r = $<a#1>;", "BadUri at 1:16")?;
+    expect(&rt, alloc, "$r = $<a#%FF>;", "BadUri at 1:16")?;
+    expect(&rt, alloc, "lexicon <a b>;", "BadUri at 1:19")?;
+    expect(&rt, alloc, "tag-format <a>;", "TagFormat at 1:22")?;
+    expect(
+        &rt,
+        alloc,
+        "tag-format <semantics/1.0>;$r = {9 out = };",
+        "BadScript at 1:43",
+    )?;
+    expect(&rt, alloc, "root $s;$r = a;", "RootMissing at 1:16")
+}
+
+#[test]
+fn the_least_place_is_told_and_there_the_least_number(rt: HostRuntime) -> Result<(), Fail> {
+    let alloc = rt.alloc();
+    expect(
+        &rt,
+        alloc,
+        "$r = a <99999999999-99999999998>;",
+        "RepeatOrder at 1:18",
+    )?;
+    expect(&rt, alloc, "$r = a <65536 /x/>;", "RepeatLarge at 1:18")?;
+    expect(&rt, alloc, "$NULL = a;$NULL = a;", "Reserved at 1:11")?;
+    expect(&rt, alloc, "$r = a <65536> <3-2>;", "Unexpected at 1:26")?;
+    expect(&rt, alloc, "$r = (a <65536>) <3-2>;", "RepeatLarge at 1:19")?;
+    expect(&rt, alloc, "root $s;$r = /x/ a;", "RootMissing at 1:16")?;
+    expect(&rt, alloc, "$r = /x/ a;$r = a", "Unexpected at 1:28")
+}
