@@ -1,0 +1,5 @@
+pub mod Marks
+pub mod Rows
+pub mod Reach
+pub mod Cores
+pub mod Keyed
