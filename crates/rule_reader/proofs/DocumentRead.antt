@@ -50,7 +50,7 @@ none_told keyword span inside e f = refl
 
 -- ---- one declaration after another
 
-twice_told : (before : List Declaration) (d : Declaration) (b : Bool) → b ≡ list_any (λ (other : Declaration). same (once other.keyword) (once d.keyword)) before
+pub twice_told : (before : List Declaration) (d : Declaration) (b : Bool) → b ≡ list_any (λ (other : Declaration). same (once other.keyword) (once d.keyword)) before
     → MatchBool b (IsDeclaredTwice before d) (IsDeclaredTwice before d → ⊥)
 twice_told before d true e = sym e
 twice_told before d false e = λ h. let f : false ≡ true = e ∙ h in cc

@@ -14,7 +14,7 @@ use Rattle.abnf_lexer.proofs.InsideForms.{some_inside, one_inside}
 use Rattle.rule_reader.specs.Leaves.{HasSlice, HasInside}
 
 -- the characters there have the form of the kind
-formed : (text : List ℕ) (span : Spanned) (slice : List ℕ) → HasSlice text span slice → (rest : List ℕ) × HasForm (Lexeme span.kind) slice rest
+pub formed : (text : List ℕ) (span : Spanned) (slice : List ℕ) → HasSlice text span slice → (rest : List ℕ) × HasForm (Lexeme span.kind) slice rest
 formed text span slice h =
     (h.1.rest, subst (λ k. HasForm (Lexeme k) slice h.1.rest) (sym h.1.kind) (subst (λ s. HasForm (Lexeme h.0.kind) s h.1.rest) (sym h.2) h.1.form))
 

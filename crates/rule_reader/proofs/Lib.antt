@@ -27,6 +27,10 @@ pub mod DecimalLemmas
 pub mod SameFault
 pub mod OneReading
 pub mod OneMeaning
+-- and each text has one, since what is asked of leaves is decided
+pub mod Decisions
+pub mod SomeMeaning
+pub mod SomeReading
 -- references by URI, keys each once, and what is read can be resolved
 pub mod UriLemmas
 pub mod OnceLemmas
@@ -34,3 +38,4 @@ pub mod ResolvableLemmas
 -- rows of a set
 pub mod RisingLists
 pub mod RowLaws
+pub mod SomeRows

@@ -87,7 +87,7 @@ no_keys_read {inside} {at} {old} {new} {x} context span m h adds =
 
 -- ---- scripts
 
-scripted : (f : Option Format) → is_scripted f ≡ true → f ≡ Some format.Script
+pub scripted : (f : Option Format) → is_scripted f ≡ true → f ≡ Some format.Script
 scripted None h = absurd cc
 scripted (Some format.Literal) h = absurd cc
 scripted (Some format.Script) h = refl

@@ -37,7 +37,7 @@ to_all P [] h k d within = absurd (omega arith)
 to_all P (x ∷ xs) h zero d within = h.0
 to_all P (x ∷ xs) h (suc k) d within = to_all P xs h.1 k d (omega arith)
 
-to_each : {X : Type 0} (P : X → Type 0) (xs : List X) → All P xs → AllByRecursion P xs
+pub to_each : {X : Type 0} (P : X → Type 0) (xs : List X) → All P xs → AllByRecursion P xs
 to_each P [] h = tt
 to_each P (x ∷ xs) h = (h zero x (omega arith), to_each P xs (λ k d within. h (suc k) d (omega arith)))
 

@@ -107,7 +107,7 @@ part_read {text} {context} {old} {mid} {new} {xs} {x} parts part h k = record {
 
 -- ---- where the leaves stand
 
-front_shown : (text : List ℕ) (xs ys : List Leaf) → EachShown text (xs ++ ys) → EachShown text xs × EachShown text ys
+pub front_shown : (text : List ℕ) (xs ys : List Leaf) → EachShown text (xs ++ ys) → EachShown text xs × EachShown text ys
 front_shown text [] ys h = (tt, h)
 front_shown text (x ∷ xs) ys h = let more = front_shown text xs ys h.1 in ((h.0, more.0), more.1)
 

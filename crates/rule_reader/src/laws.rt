@@ -1,5 +1,5 @@
 //! Laws of the definitions, each the contract of a function that does nothing.
-ghost use Rattle.std.specs.Prelude.{◌≡◌, ℕ, true, Bool, List, []};
+ghost use Rattle.std.specs.Prelude.{◌≡◌, ℕ, true, Bool, List, [], Result};
 ghost use Rattle.vg_base.specs.declared.doc_fault.DocFault.{DocFault};
 ghost use Rattle.abnf_parser.specs.Expansions.{Alternatives, alternatives_spelled, alternatives_meant};
 ghost use Rattle.grammar_tree.specs.declared.doc_set.DocText.{DocText};
@@ -8,7 +8,7 @@ ghost use Rattle.rule_reader.specs.Leaves.{Leaf};
 ghost use Rattle.rule_reader.specs.Imports.{IsResolvable};
 ghost use Rattle.rule_reader.specs.Sets.{AreRows, IsClosure};
 ghost use Rattle.vg_base.specs.declared.numbers.DocIx.{DocIx};
-ghost use Rattle.rule_reader.specs.Reading.{Reads, IsFirstFault};
+ghost use Rattle.rule_reader.specs.Reading.{Reads, IsFirstFault, IsReading};
 ghost use Rattle.rule_reader.specs.Standing.{All, Of};
 
 /// What holds of each lexeme of a body holds of each leaf of its tree.
@@ -17,13 +17,14 @@ pub fn leaves_are_lexemes()
         → Of (λ leaf. p leaf ≡ true) (alternatives_meant inner) }
 {}
 
-/// A text reads as one document at most, or has one first fault at most, and not both.
+/// Each text reads as one document, or has one first fault, and not both.
 pub fn texts_have_one_answer()
     ensures document { (text : List ℕ) (a b : Doc) → Reads text a → Reads text b → a ≡ b }
     ensures either { (text : List ℕ) (doc : Doc) (fault : DocFault) → Reads text doc
         → IsFirstFault text fault → ⊥ }
     ensures fault { (text : List ℕ) (f g : DocFault) → IsFirstFault text f → IsFirstFault text g
         → f ≡ g }
+    ensures some { (text : List ℕ) → (answer : Result Doc DocFault) × IsReading text answer }
 {}
 
 /// The references by URI and the base of a document that was read can be resolved.
@@ -33,7 +34,8 @@ pub fn references_can_be_resolved()
 
 /// A set has one list of rows.
 pub fn rows_are_one()
-    ensures { (set : List DocText) (one other : List (List DocIx)) → AreRows set one → AreRows set other
+    ensures some { (set : List DocText) → (rows : List (List DocIx)) × AreRows set rows }
+    ensures one { (set : List DocText) (one other : List (List DocIx)) → AreRows set one → AreRows set other
         → one ≡ other }
 {}
 

@@ -89,3 +89,23 @@ fn the_least_place_is_told_and_there_the_least_number(rt: HostRuntime) -> Result
     expect(&rt, alloc, "root $s;$r = /x/ a;", "RootMissing at 1:16")?;
     expect(&rt, alloc, "$r = /x/ a;$r = a", "Unexpected at 1:28")
 }
+
+/// What a document is as a whole, worked out by hand: `[1 2]` is none or once, `<2->` is at least twice, a special rule by
+/// its name, references at their places, a tag without a script where no tag format is declared.
+const WHOLE: &str =
+    "Doc { mode: Dtmf, root: Some(Text { utf8: \"r\" }), format: None, base: Some(Text { utf8: \"d/\" }), rules: Items { items: [Rule { place: Place { line: 1, column: 39 }, public: false, name: Text { utf8: \"s\" }, body: Token(Items { items: [Word { text: Text { utf8: \"1\" } }] }) }, Rule { place: Place { line: 1, column: 53 }, public: true, name: Text { utf8: \"r\" }, body: Seq(Items { items: [Rep { least: 0, most: Some(1), inner: Boxed { inner: Seq(Items { items: [Token(Items { items: [Word { text: Text { utf8: \"1\" } }] }), Token(Items { items: [Word { text: Text { utf8: \"2\" } }] })] }) } }, Rep { least: 2, most: None, inner: Boxed { inner: Alt(Items { items: [Null, Ref(Reference { place: Place { line: 1, column: 73 }, goal: Local(Text { utf8: \"s\" }) })] }) } }, Tag(TagNode { place: Place { line: 1, column: 82 }, text: Text { utf8: \"x\" }, script: None }), Ref(Reference { place: Place { line: 1, column: 86 }, goal: Named { uri: Text { utf8: \"b\" }, rule: Text { utf8: \"t\" } } }), Ref(Reference { place: Place { line: 1, column: 93 }, goal: Root { uri: Text { utf8: \"c\" } } }), Rep { least: 0, most: None, inner: Boxed { inner: Null } }] }) }] } }";
+
+#[test]
+fn a_document_is_read_whole(rt: HostRuntime) -> Result<(), Fail> {
+    let alloc = rt.alloc();
+    let text = Text::of(
+        alloc,
+        "#ABNF 1.0;mode dtmf;root $r;base <d/>;$s = 1;public $r = [1 2] ($NULL | $s) <2-> {x} $<b#t> $<c> ()<0->;",
+    )?;
+    let document = read_document(alloc, &text);
+    assert!(&rt; document.is_ok());
+    if let Ok(document) = document {
+        assert_eq!(&rt; format!(in alloc; "{document:?}")?.as_str(), WHOLE);
+    }
+    Ok(())
+}

@@ -1,5 +1,6 @@
 use Rattle.rule_reader.proofs.RowLaws as lemma
+use Rattle.rule_reader.proofs.SomeRows.{some_rows}
 use Rattle.rule_reader.proofs.laws.rows_are_one.Goals as goal
 
 pub returns : goal.returns
-returns c = lemma.rows_are_one
+returns c = record { some = some_rows; one = lemma.rows_are_one }
