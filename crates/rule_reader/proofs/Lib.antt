@@ -18,6 +18,8 @@ pub mod Walks
 pub mod Rests
 pub mod NamesRead
 pub mod DocumentRead
+-- declarations that stand twice
+pub mod Twice
 -- fragments in percent form
 pub mod EscapeLemmas
 -- numbers of repeats, weights and probabilities

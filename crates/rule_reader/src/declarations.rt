@@ -5,7 +5,7 @@ ghost use Rattle.abnf_parser.specs.declared.written.Declaration.{Declaration};
 ghost use Rattle.uri_links.specs.Faults.{reading_fault};
 ghost use Rattle.rule_reader.specs.Context as spec;
 ghost use Rattle.rule_reader.specs.DocumentFaults.{NameFaults, ArgumentFaults, DeclarationFaults};
-ghost use Rattle.rule_reader.specs.code.Contexts.{names_uri, names_format};
+ghost use Rattle.rule_reader.specs.code.Contexts.{names_uri, names_format, stands_among};
 ghost use Rattle.rule_reader.specs.code.Walks.{DeclarationShown, Tells};
 
 use crate::context::{argument_of, format_named, once, same};
@@ -81,12 +81,25 @@ fn read_argument(
     Ok(())
 }
 
-/// Whether one of its kind stands before it, of which a document has one.
+/// Whether one of its kind stands before it, of which a document has one. The last ones are looked at first: what stands
+/// between two of a kind is looked at once for that kind, so all declarations together cost no more than they are.
 fn is_twice(before: &[Declaration], declaration: &Declaration) -> bool
     ensures { result ≡ list_any (λ (other : Declaration). spec.same (spec.once other.keyword) (spec.once declaration.now.keyword)) before.now }
 {
-    for other in before {
-        if same(once(other.keyword), once(declaration.keyword)) {
+    match once(declaration.keyword) {
+        None => false,
+        Some(kind) => is_among(before, kind),
+    }
+}
+
+/// Whether a declaration of this kind is among these.
+#[tactic(auto, using(crate::proofs::Twice::among, crate::proofs::Twice::none_more))]
+fn is_among(before: &[Declaration], kind: u32) -> bool
+    ensures { result ≡ stands_among (Some kind) before.now }
+{
+    for back in 0..before.len() {
+        let at = before.len() - 1 - back;
+        if same(once(before[at].keyword), Some(kind)) {
             return true;
         }
     }
