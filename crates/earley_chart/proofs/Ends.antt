@@ -1,15 +1,14 @@
 -- A spot ends at more places: the board stays whole, and who waited is called.
 use Rattle.std.proofs.Common.{ℕ, ◌+◌, ◌^◌, ◌<◌, ◌≤◌, ◌≡◌, ◌≢◌, ◌⊎◌, inl, inr, List, [], ◌∷◌, ◌++◌, Option, Some, None, length, get_or, refl, sym, ap, ◌∙◌, subst, ⊎_elim, arith}
-use Rattle.std.specs.Prelude.{slice_get, slice_set, sum_by, nat_eq, Vec}
+use Rattle.std.specs.Prelude.{slice_get, slice_set, sum_by, nat_eq}
 use Rattle.std.specs.List.{Contains, IsDistinct}
-use Rattle.std.specs.declared.alloc.Global.{Global}
 use Rattle.std.proofs.lemmas.Bool.{cases_eq}
 use Rattle.std.proofs.lemmas.List.Sums.{sum_by-set}
 use Rattle.std.proofs.lemmas.Option.{slice_get_within, get_or_from_slice_get}
 use Rattle.earley_chart.specs.declared.places.Places.{Places}
 use Rattle.earley_chart.specs.declared.board.Board.{Board}
 use Rattle.earley_chart.specs.Places.{Has, Holds}
-use Rattle.earley_chart.specs.code.Boards.{IsSpot, EndsAt, Waits, IsWhole, Ended, found}
+use Rattle.earley_chart.specs.code.Boards.{IsSpot, EndsAt, Lookers, Waits, IsWhole, Ended, found}
 use Rattle.earley_chart.proofs.Lists.{set_same, set_other, set_length, set_cases}
 
 -- what the board knew of a spot, and what it knows
@@ -23,14 +22,14 @@ pub record Raised (old now : Board) (at : ℕ) (ends : Places) : Type 0 where
   pub both : Holds all (λ j. Has known j ⊎ Has ends j)
   pub rises : known.0 < all.0
   pub small : all.0 < 2 ^ 128
-  pub was : Vec ℕ Global
+  pub was : Lookers
   pub waited : slice_get old.waiting.items at ≡ Some was
-  pub cleared : Vec ℕ Global
-  pub empty : cleared.items ≡ []
+  pub cleared : Lookers
+  pub empty : cleared.keys ≡ []
   pub waiting : now.waiting.items ≡ slice_set old.waiting.items at cleared
-  pub called : (other : ℕ) → Contains was.items other → Contains now.again.keys other
+  pub called : (other : ℕ) → Contains was.keys other → Contains now.again.keys other
   pub kept : (other : ℕ) → Contains old.again.keys other → Contains now.again.keys other
-  pub from : (other : ℕ) → Contains now.again.keys other → Contains old.again.keys other ⊎ Contains was.items other
+  pub from : (other : ℕ) → Contains now.again.keys other → Contains old.again.keys other ⊎ Contains was.keys other
   pub distinct : IsDistinct nat_eq old.again.keys → IsDistinct nat_eq now.again.keys
 
 module _ (old now : Board) (at : ℕ) (ends : Places) (r : Raised old now at ends) where
@@ -68,7 +67,7 @@ module _ (old now : Board) (at : ℕ) (ends : Places) (r : Raised old now at end
       (λ same.
       let both : Some h.0 ≡ Some r.was = sym h.1 ∙ ap (λ k. slice_get old.waiting.items k) same ∙ r.waited in
       let one : h.0 ≡ r.was = cc in
-      inl (r.called above (subst (λ (v : Vec ℕ Global). Contains v.items above) one h.2)))
+      inl (r.called above (subst (λ (v : Lookers). Contains v.keys above) one h.2)))
       (λ ne. inr (
         (h.0, ap (λ l. slice_get l other) r.waiting ∙ set_other old.waiting.items at other r.cleared ne ∙ h.1, h.2),
         λ j e. (e.0, sym (ends_other other ne) ∙ e.1, e.2),
@@ -77,11 +76,11 @@ module _ (old now : Board) (at : ℕ) (ends : Places) (r : Raised old now at end
 
   waits_from : (above other : ℕ) → Waits now above other → Waits old above other
   waits_from above other h = ⊎_elim
-      (λ a. absurd (nobody (subst (λ (v : Vec ℕ Global). Contains v.items above) (sym a.1) h.2)))
+      (λ a. absurd (nobody (subst (λ (v : Lookers). Contains v.keys above) (sym a.1) h.2)))
       (λ a. (h.0, a.1, h.2))
       (set_cases old.waiting.items at other r.cleared h.0 within_waiting (subst (λ l. slice_get l other ≡ Some h.0) r.waiting h.1))
     where
-      nobody : Contains r.cleared.items above → ⊥
+      nobody : Contains r.cleared.keys above → ⊥
       nobody c = let h = subst (λ l. Contains l above) r.empty c in absurd (omega (arith, h.1))
 
   more : found old < found now

@@ -3,8 +3,8 @@ mod Bits
 mod ReadLaws
 mod Scans
 mod Meets
-mod Looks
 mod Calls
+mod Looks
 mod Takes
 mod Ends
 mod Visits

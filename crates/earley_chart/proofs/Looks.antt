@@ -1,28 +1,28 @@
--- One more who looks at a spot: the board stays whole, and all who waited wait.
+-- One who looks at a spot waits for it, once: the board stays whole, and all who waited wait.
 use Rattle.std.proofs.Common.{Bool, true, false, ℕ, ◌+◌, ◌<◌, ◌≤◌, ◌≡◌, ◌≢◌, ◌⊎◌, inl, inr, List, [], ◌∷◌, ◌++◌, Option, Some, None, length, refl, sym, ap, ◌∙◌, subst, ⊎_elim, arith}
 use Rattle.std.specs.Prelude.{slice_get, slice_set, Vec}
 use Rattle.std.specs.List.{Contains}
 use Rattle.std.specs.declared.alloc.Global.{Global}
 use Rattle.std.proofs.lemmas.Bool.{cases_eq}
-use Rattle.std.proofs.lemmas.List.Elements.{Contains-append_left, Contains-push, Contains-push_cases}
 use Rattle.std.proofs.lemmas.Option.{slice_get_within}
 use Rattle.earley_chart.specs.declared.board.Board.{Board}
-use Rattle.earley_chart.specs.code.Boards.{IsSpot, EndsAt, Waits, IsWhole, Grows}
+use Rattle.earley_chart.specs.code.Boards.{EndsAt, Lookers, Waits, IsWhole, Grows}
+use Rattle.earley_chart.proofs.Calls.{Inserted}
 use Rattle.earley_chart.proofs.Lists.{set_same, set_other, set_length, set_cases}
 
 -- the board with another column of those who wait
-abbrev pub with_waiting : Board → Vec (Vec ℕ Global) Global → Board
+abbrev pub with_waiting : Board → Vec Lookers Global → Board
 with_waiting b waiting = record { spots = b.spots; ends = b.ends; waiting = waiting; seen = b.seen; again = b.again }
 
--- one more waits for a spot
-pub record Watched (b : Board) (waiting : Vec (Vec ℕ Global) Global) (above at : ℕ) : Type 0 where
-  pub was : Vec ℕ Global
+-- one waits for a spot, who may have waited before
+pub record Watched (b : Board) (waiting : Vec Lookers Global) (above at : ℕ) : Type 0 where
+  pub was : Lookers
   pub here : slice_get b.waiting.items at ≡ Some was
-  pub more : Vec ℕ Global
-  pub items : more.items ≡ was.items ++ above ∷ []
+  pub more : Lookers
+  pub inserted : Inserted was.keys more.keys above
   pub set : waiting.items ≡ slice_set b.waiting.items at more
 
-module _ (b : Board) (waiting : Vec (Vec ℕ Global) Global) (above at : ℕ) (w : Watched b waiting above at) where
+module _ (b : Board) (waiting : Vec Lookers Global) (above at : ℕ) (w : Watched b waiting above at) where
   within : at < length b.waiting.items
   within = slice_get_within b.waiting.items at w.was w.here
 
@@ -33,7 +33,7 @@ module _ (b : Board) (waiting : Vec (Vec ℕ Global) Global) (above at : ℕ) (w
   watched_waits = (
     w.more,
     now_here,
-    subst (λ l. Contains l above) (sym w.items) (Contains-push w.was.items above),
+    w.inserted.has,
   )
 
   keeps : (other k : ℕ) → Waits b other k → Waits (with_waiting b waiting) other k
@@ -41,8 +41,7 @@ module _ (b : Board) (waiting : Vec (Vec ℕ Global) Global) (above at : ℕ) (w
       (λ same.
       let both : Some w.was ≡ Some h.0 = sym w.here ∙ ap (λ n. slice_get b.waiting.items n) (sym same) ∙ h.1 in
       let one : w.was ≡ h.0 = cc in
-      let there : Contains w.more.items other =
-      subst (λ l. Contains l other) (sym w.items) (Contains-append_left w.was.items (above ∷ []) other (subst (λ (v : Vec ℕ Global). Contains v.items other) (sym one) h.2)) in
+      let there : Contains w.more.keys other = w.inserted.kept other (subst (λ (v : Lookers). Contains v.keys other) (sym one) h.2) in
       (w.more, subst (λ n. slice_get waiting.items n ≡ Some w.more) (sym same) now_here, there))
       (λ ne. (h.0, subst (λ l. slice_get l k ≡ Some h.0) (sym w.set) (set_other b.waiting.items at k w.more ne ∙ h.1), h.2))
       (cases_eq k at)
@@ -51,7 +50,7 @@ module _ (b : Board) (waiting : Vec (Vec ℕ Global) Global) (above at : ℕ) (w
   waited other k h = ⊎_elim
       (λ a.
       ⊎_elim (λ old. inl (w.was, subst (λ n. slice_get b.waiting.items n ≡ Some w.was) (sym a.0) w.here, old)) (λ new. inr (sym new))
-      (Contains-push_cases w.was.items above other (subst (λ l. Contains l other) w.items (subst (λ (v : Vec ℕ Global). Contains v.items other) (sym a.1) h.2))))
+      (w.inserted.from other (subst (λ (v : Lookers). Contains v.keys other) (sym a.1) h.2)))
       (λ a. inl (h.0, a.1, h.2))
       (set_cases b.waiting.items at k w.more h.0 within (subst (λ l. slice_get l k ≡ Some h.0) w.set h.1))
 

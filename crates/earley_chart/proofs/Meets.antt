@@ -1,9 +1,8 @@
 -- One spot more on a board: it stays whole, and nothing that was there changes.
 use Rattle.std.proofs.Common.{Bool, true, false, ◌&&◌, eqb, ℕ, ◌+◌, ◌^◌, ◌<◌, ◌≤◌, ◌≡◌, ◌≢◌, ◌⊎◌, inl, inr, List, [], ◌∷◌, ◌++◌, Option, Some, None, length, refl, sym, ap, ◌∙◌, subst, ⊎_elim, arith, length-append, eq-eqb, eqb-true}
-use Rattle.std.specs.Prelude.{slice_get, sum_by, Vec}
+use Rattle.std.specs.Prelude.{slice_get, sum_by}
 use Rattle.std.specs.List.{Contains, IsDistinct}
 use Rattle.std.specs.Bool.{Decides}
-use Rattle.std.specs.declared.alloc.Global.{Global}
 use Rattle.std.proofs.lemmas.Bool.{and_parts, and_from}
 use Rattle.std.proofs.lemmas.List.Sums.{sum_by_push}
 use Rattle.std.proofs.lemmas.Option.{slice_get_within}
@@ -11,7 +10,7 @@ use Rattle.earley_chart.specs.declared.places.Places.{Places}
 use Rattle.earley_chart.specs.declared.board.Spot.{Spot}
 use Rattle.earley_chart.specs.declared.board.Board.{Board}
 use Rattle.earley_chart.specs.Places.{Has}
-use Rattle.earley_chart.specs.code.Boards.{IsSpot, EndsAt, Waits, IsWhole, Grows}
+use Rattle.earley_chart.specs.code.Boards.{IsSpot, EndsAt, Lookers, Waits, IsWhole, Grows}
 use Rattle.earley_chart.proofs.Bits.{none_has}
 use Rattle.earley_chart.proofs.Lists.{push_old, push_new, push_cases, one_number}
 
@@ -42,8 +41,8 @@ pub record Pushed (old now : Board) (spot : Spot) : Type 0 where
   pub none : Places
   pub empty : none ≡ record { 0 = 0 }
   pub ends : now.ends.items ≡ old.ends.items ++ none ∷ []
-  pub nobody : Vec ℕ Global
-  pub idle : nobody.items ≡ []
+  pub nobody : Lookers
+  pub idle : nobody.keys ≡ []
   pub waiting : now.waiting.items ≡ old.waiting.items ++ nobody ∷ []
   pub seen : now.seen ≡ old.seen
   pub again : now.again ≡ old.again
@@ -67,10 +66,10 @@ module _ (old now : Board) (spot : Spot) (p : Pushed old now spot) (whole : IsWh
 
   waits_were : (above at : ℕ) → Waits now above at → Waits old above at
   waits_were above at h =
-      ⊎_elim (λ a. (h.0, a, h.2)) (λ a. absurd (nobody (subst (λ (v : Vec ℕ Global). Contains v.items above) (sym a.1) h.2)))
+      ⊎_elim (λ a. (h.0, a, h.2)) (λ a. absurd (nobody (subst (λ (v : Lookers). Contains v.keys above) (sym a.1) h.2)))
       (push_cases old.waiting.items p.nobody at h.0 (subst (λ l. slice_get l at ≡ Some h.0) p.waiting h.1))
     where
-      nobody : Contains p.nobody.items above → ⊥
+      nobody : Contains p.nobody.keys above → ⊥
       nobody c = let h = subst (λ l. Contains l above) p.idle c in absurd (omega (arith, h.1))
 
   pub pushed_grows : Grows old now

@@ -19,12 +19,12 @@ pub struct Spot {
 }
 
 /// Spots are numbered as they are met. Beside each stand the places where it ends, and who is to
-/// look again where it ends elsewhere. Those from `seen` on have not been looked at.
+/// look again where it ends elsewhere, each once. Those from `seen` on have not been looked at.
 #[derive(Drop)]
 pub struct Board {
     pub spots: IndexSet<Spot>,
     pub ends: Vec<Places>,
-    pub waiting: Vec<Vec<usize>>,
+    pub waiting: Vec<IndexSet<usize>>,
     pub seen: usize,
     pub again: IndexSet<usize>,
 }
@@ -54,7 +54,7 @@ impl Board {
         let (at, added) = self.spots.insert_full(spot)?;
         if added {
             self.ends.push(Places::none())?;
-            self.waiting.push(Vec::new(alloc))?;
+            self.waiting.push(IndexSet::new(alloc))?;
         }
         Ok(at)
     }
@@ -69,7 +69,7 @@ impl Board {
         ensures other { OnOk result (AddsOnly spot self.old self.new) }
     {
         let at = self.meet(alloc, spot)?;
-        self.waiting[at].push(above)?;
+        self.waiting[at].insert(above)?;
         Ok(self.ends[at])
     }
 

@@ -1,7 +1,9 @@
 -- What a board holds: spots, where they end, who looked at them; and what each spot asks.
-use Rattle.std.specs.declared.alloc.Global.{Global}
-use Rattle.std.specs.Prelude.{ℕ, Vec, ◌≡◌, ◌≢◌, ◌≤◌, ◌<◌, ◌+◌, ◌-◌, ◌^◌, ◌⊎◌, Bool, List, Option, Some, None, length, slice_get, sum_by, nat_eq}
+use Rattle.std.specs.Prelude.{ℕ, ◌≡◌, ◌≢◌, ◌≤◌, ◌<◌, ◌+◌, ◌-◌, ◌^◌, ◌⊎◌, Bool, List, Option, Some, None, length, slice_get, sum_by, nat_eq}
 use Rattle.std.specs.List.{Contains, IsDistinct}
+use Rattle.std.specs.declared.hash.BuildHasherDefault.{BuildHasherDefault}
+use Rattle.std.specs.declared.hash.FoldHasher.{FoldHasher}
+use Rattle.indexmap.specs.IndexSet.{IndexSet}
 use Rattle.vg_base.specs.declared.numbers.NodeIx.{NodeIx}
 use Rattle.vg_base.specs.declared.numbers.RuleIx.{RuleIx}
 use Rattle.grammar_tree.specs.declared.linked.Node.{Node}
@@ -27,6 +29,10 @@ spot_at n k m = record { node = n.0; step = k; start = m }
 abbrev pub moved : Spot → ℕ → Spot
 moved s j = record { node = s.node; step = s.step; start = j }
 
+-- the numbers of who waits for a spot, each once
+abbrev pub Lookers : Type 0
+Lookers = IndexSet ℕ (BuildHasherDefault FoldHasher)
+
 abbrev pub IsSpot : Board → ℕ → Spot → Type 0
 IsSpot b at s = slice_get b.spots.keys at ≡ Some s
 
@@ -35,7 +41,7 @@ EndsAt b at j = (ends : Places) × (slice_get b.ends.items at ≡ Some ends) × 
 
 -- the one above is to look again where this spot ends elsewhere
 abbrev pub Waits : Board → ℕ → ℕ → Type 0
-Waits b above at = (all : Vec ℕ Global) × (slice_get b.waiting.items at ≡ Some all) × Contains all.items above
+Waits b above at = (all : Lookers) × (slice_get b.waiting.items at ≡ Some all) × Contains all.keys above
 
 -- the one above looked at the spot, and each place where that ends is one of these
 abbrev pub Sees : Board → ℕ → Spot → (ℕ → Type 0) → Type 0

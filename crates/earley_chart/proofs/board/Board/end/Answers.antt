@@ -35,11 +35,11 @@ raised c =
       was = c.index-2.result.now;
       waited = get_from c.args.self.now.waiting.items c.args.at c.index-2.result.now waits c.index-2.ensures;
       cleared = c.clear.new.self;
-      empty = c.clear.ensures.items;
+      empty = c.clear.ensures.empty;
       waiting = refl;
-      called = λ other h. c.in_ok-call.ensures.all other (subst (λ l. Contains l other) (sym c.as_slice.ensures.value) h);
+      called = λ other h. c.in_ok-call.ensures.all other (subst (λ l. Contains l other) (sym c.as_slice.ensures.keys) h);
       kept = c.in_ok-call.ensures.kept;
-      from = λ other h. subst (λ l. Contains c.args.self.now.again.keys other ⊎ Contains l other) c.as_slice.ensures.value (c.in_ok-call.ensures.from other h);
+      from = λ other h. subst (λ l. Contains c.args.self.now.again.keys other ⊎ Contains l other) c.as_slice.ensures.keys (c.in_ok-call.ensures.from other h);
       distinct = c.in_ok-call.ensures.distinct;
     }
 

@@ -4,19 +4,20 @@ use Rattle.std.proofs.lemmas.Option.{slice_get_within}
 use Rattle.earley_chart.specs.declared.places.Places.{Places}
 use Rattle.earley_chart.specs.Places.{Has}
 use Rattle.earley_chart.specs.code.Boards.{EndsAt}
+use Rattle.earley_chart.proofs.Calls.{inserted}
 use Rattle.earley_chart.proofs.Lists.{get_from}
 use Rattle.earley_chart.proofs.Looks.{Watched, watched_waits, watched_whole, watched_grows, grows_then}
 use Rattle.earley_chart.proofs.board.Board.look.Goals as goal
 
-watched : (c : goal.After-result-1) → Watched c.meet.new.self (Rattle.std.specs.Vec.with_item c.meet.new.self.waiting c.in_ok-at.at c.push.new.self) c.args.above c.in_ok-at.at
+watched : (c : goal.After-result-1) → Watched c.meet.new.self (Rattle.std.specs.Vec.with_item c.meet.new.self.waiting c.in_ok-at.at c.insert.new.self) c.args.above c.in_ok-at.at
 watched c =
     let at : c.in_ok-at.at < length c.meet.new.self.spots.keys = slice_get_within c.meet.new.self.spots.keys c.in_ok-at.at c.args.spot c.in_ok-at.ensures.met in
     let fits : c.in_ok-at.at < length c.meet.new.self.waiting.items = subst (λ n. c.in_ok-at.at < n) (sym c.in_ok-at.ensures.whole.waiting) at in
     record {
       was = c.index_mut.result.now;
       here = get_from c.meet.new.self.waiting.items c.in_ok-at.at c.index_mut.result.now fits c.index_mut.ensures.value;
-      more = c.push.new.self;
-      items = c.in_ok-push.ensures.items;
+      more = c.insert.new.self;
+      inserted = inserted c.index_mut.result.now.keys c.insert.new.self.keys c.args.above c.in_ok-insert.ensures.keys;
       set = refl;
     }
 
