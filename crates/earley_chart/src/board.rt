@@ -7,6 +7,7 @@ ghost use Rattle.earley_chart.specs.code.Boards.{Grows, Shows, IsIdle, IsWithin,
 use crate::places::Places;
 use indexmap::IndexSet;
 use std::alloc::Global;
+use std::collections::BTreeSet;
 use vg_base::Memory;
 
 /// A node with so many steps behind it, at a place: of a sequence parts, of alternatives those that
@@ -26,7 +27,7 @@ pub struct Board {
     pub ends: Vec<Places>,
     pub waiting: Vec<IndexSet<usize>>,
     pub seen: usize,
-    pub again: IndexSet<usize>,
+    pub again: BTreeSet<usize>,
 }
 
 impl Board {
@@ -39,7 +40,7 @@ impl Board {
             ends: Vec::new(alloc),
             waiting: Vec::new(alloc),
             seen: 0,
-            again: IndexSet::new(alloc),
+            again: BTreeSet::new(alloc),
         }
     }
 
@@ -91,8 +92,9 @@ impl Board {
         Ok(())
     }
 
-    /// The next spot to be looked at: one that wasn't looked at, else the last one that is to be
-    /// looked at again.
+    /// The next spot to be looked at: one that wasn't looked at, else of those that are to be looked
+    /// at again the one that was met last. What stands later in the line is mostly met later, so it
+    /// mostly has all its ends before what stands earlier looks at it.
     pub fn next(&mut self) -> Option<usize>
         requires { IsWhole self.old }
         ensures whole { IsWhole self.new }
@@ -105,12 +107,12 @@ impl Board {
             self.seen += 1;
             return Some(at);
         }
-        self.again.pop()
+        self.again.pop_last()
     }
 }
 
 /// Those who wait are to look again.
-fn call(again: &mut IndexSet<usize>, waiting: &[usize]) -> Result<(), Memory>
+fn call(again: &mut BTreeSet<usize>, waiting: &[usize]) -> Result<(), Memory>
     ensures all { OnOk result (IsWithin waiting.now again.new.keys) }
     ensures kept { OnOk result (IsWithin again.old.keys again.new.keys) }
     ensures from { OnOk result (IsOfEither again.new.keys again.old.keys waiting.now) }

@@ -1,8 +1,6 @@
-use Rattle.std.proofs.Common.{List, ℕ, ◌≡◌, ◌≤◌, ◌∙◌, ◌++◌, length, refl, sym, subst}
-use Rattle.std.specs.List.{Contains}
-use Rattle.std.specs.Option.{option_to_list}
-use Rattle.std.proofs.lemmas.List.Elements.{Contains-append_left}
-use Rattle.earley_chart.proofs.Takes.{taken}
+use Rattle.std.proofs.Common.{◌≤◌, refl, subst}
+use Rattle.earley_chart.proofs.Calls.{ordered_distinct}
+use Rattle.earley_chart.proofs.Takes.{taken, idle, kept}
 use Rattle.earley_chart.proofs.board.Board.next.Goals as goal
 
 pub returns-clause-whole : goal.returns-clause-whole
@@ -11,11 +9,14 @@ returns-clause-whole c = record {
   waiting = c.requires.waiting;
   apart = c.requires.apart;
   seen = c.requires.seen;
-  again = λ at h. c.requires.again at (subst (λ l. Contains l at) (sym c.pop.ensures.keys) (Contains-append_left c.pop.new.self.keys (option_to_list c.pop.result) at h));
+  again = λ at h. c.requires.again at (kept c.pop_last.result _ _ c.pop_last.ensures.removal c.pop_last.ensures.unchanged at h);
   waits = c.requires.waits;
-  distinct = c.pop.ensures.unique;
+  distinct = ordered_distinct c.pop_last.new.self.keys c.pop_last.ensures.ordered;
   small = c.requires.small;
 }
 
 pub returns-clause-some : goal.returns-clause-some
-returns-clause-some c = taken c.args.self.now _ refl refl c.pop.result c.requires (subst (λ n. n ≤ c.args.self.now.seen) c.len.ensures.len c.if-self-len.false) c.pop.ensures.keys
+returns-clause-some c = taken c.args.self.now _ refl refl c.pop_last.result c.requires (subst (λ n. n ≤ c.args.self.now.seen) c.len.ensures.len c.if-self-len.false) c.pop_last.ensures.removal
+
+pub returns-clause-none : goal.returns-clause-none
+returns-clause-none c = idle c.args.self.now c.pop_last.result (subst (λ n. n ≤ c.args.self.now.seen) c.len.ensures.len c.if-self-len.false) c.pop_last.ensures.variant
