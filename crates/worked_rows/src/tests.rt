@@ -1,6 +1,7 @@
 //! Scripts as texts: what is read of them (`reading`), and what they do. A row is a script, or an expression, and behind ` => ` what `out` holds at the end as JSON, or the fault.
 mod arithmetic_on_kinds;
 mod assignments;
+mod documents;
 mod literals;
 mod operators;
 mod operators_on_kinds;
