@@ -46,7 +46,8 @@ impl Source for SureSource {
         requires { 0 < length buf.old }
         // What every source says.
         ensures bound { IfOk result (λ n. n ≤ length buf.new) }
-        ensures reads { ReadsBytes (told_by_supply self.old) (told_by_supply self.new) result buf.new }
+        ensures reads { ReadsBytes (told_by_supply self.old) (told_by_supply self.new) result
+            buf.new }
 
         // What this one does.
         ensures count { result ≡ Ok (min (length buf.old) (length self.old.left)) }
