@@ -1,0 +1,3 @@
+pub mod Graphs
+-- For private contracts alone.
+pub mod code

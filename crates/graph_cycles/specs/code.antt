@@ -1,0 +1,4 @@
+pub mod Reaches
+pub mod Sets
+pub mod Searches
+pub mod Steps
