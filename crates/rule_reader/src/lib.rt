@@ -23,7 +23,7 @@ pub use laws::{
     closures_are_one, leaves_are_lexemes, references_can_be_resolved, rows_are_one,
     texts_have_one_answer,
 };
-pub use uris::{imported_keys, imports};
+pub use uris::{base_uri, imported_keys, imports};
 
 #[cfg(test)]
 mod tests;

@@ -1,7 +1,8 @@
-use crate::read_document;
+use crate::{imports, read_document, references_can_be_resolved};
 use std::alloc::{AllocError, Global};
 use std::process::Abort;
 use std::test::Fail;
+use uri_links::Uri;
 use vg_base::Text;
 
 /// How many rules a text has, or why it is refused.
@@ -106,6 +107,45 @@ fn a_document_is_read_whole(rt: HostRuntime) -> Result<(), Fail> {
     assert!(&rt; document.is_ok());
     if let Ok(document) = document {
         assert_eq!(&rt; format!(in alloc; "{document:?}")?.as_str(), WHOLE);
+    }
+    Ok(())
+}
+
+/// The keys that a document imports under its key, one after another.
+fn imported(alloc: Global, key: &str, rest: &str) -> Result<String, Fail> {
+    references_can_be_resolved();
+    let written = format!(in alloc; "#ABNF 1.0;{rest}")?;
+    let text = Text::of(alloc, written.as_str())?;
+    let document = read_document(alloc, &text)?;
+    let key = Uri::read_key(alloc, &Text::of(alloc, key)?)?;
+    let mut list = String::new(alloc);
+    for found in &imports(alloc, &document, &key)? {
+        list.push_str(found.as_str())?;
+        list.push_str(" ")?;
+    }
+    Ok(list)
+}
+
+#[test]
+fn each_key_is_imported_once_in_order(rt: HostRuntime) -> Result<(), Fail> {
+    for (rest, want) in [
+        (
+            "$r = $<b> $<c#r> ($<b#s> | $<../d>) $r;",
+            "http://e/x/b http://e/x/c http://e/d ",
+        ),
+        (
+            "base <y/>;$r = $<b> $<c#r>;$s = $<b#s> $<../d>;",
+            "http://e/x/y/b http://e/x/y/c http://e/x/d ",
+        ),
+        (
+            "base <http://f/#g>;$r = [$<b>] $<a>;",
+            "http://f/b http://f/a ",
+        ),
+        ("$r = $<a#r> x $<./a>;", "http://e/x/a "),
+        ("$r = x;", ""),
+    ] {
+        let found = imported(rt.alloc(), "http://e/x/a", rest)?;
+        assert_eq!(&rt; found.as_str(), want, "{rest:?}");
     }
     Ok(())
 }

@@ -46,9 +46,10 @@ fn keys_once(alloc: Global, doc: &Doc, key: &Uri) -> Result<IndexSet<Text>, Memo
     resolved(alloc, &base, &uris)
 }
 
-/// The URI against which the references of a document are resolved.
+/// The URI against which the references of the document under `key` are resolved: the key, or the base that is declared,
+/// resolved against the key, without fragment (SRGS 1.0 section 4.9).
 #[tactic(auto, unfolding(uri_links::specs::Resolution::is_absolute))]
-fn base_uri(alloc: Global, key: &Uri, base: &Option<Text>) -> Result<Uri, Memory>
+pub fn base_uri(alloc: Global, key: &Uri, base: &Option<Text>) -> Result<Uri, Memory>
     requires readable { IsReadableBase base.now }
     requires key { is_absolute key.now ≡ true }
     ensures value { IfOk result (λ uri. uri ≡ base_uri key.now base.now) }
