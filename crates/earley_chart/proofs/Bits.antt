@@ -1,12 +1,12 @@
 -- Sets of places as bits: what each operation does to one place.
 use Rattle.std.proofs.Common.{ℕ, ◌+◌, ◌-◌, ◌*◌, ◌/◌, ◌%◌, ◌^◌, ◌<◌, ◌≤◌, ◌≡◌, ◌≢◌, ◌⊎◌, inl, inr, Bool, true, false, min, max, refl, sym, ap, ◌∙◌, subst, ⊎_elim, arith}
-use Rattle.std.specs.Int.{bit_at, bit_not, w128}
-use Rattle.std.specs.Int.RustNames.{bit_or}
+use Rattle.std.specs.Int.{bit_at, bit_not, w128, trailing_zeros}
+use Rattle.std.specs.Int.RustNames.{bit_or, bit_and}
 use Rattle.std.proofs.lemmas.Bool.{cases_eq, cases_lt}
 use Rattle.std.proofs.lemmas.Nat.{one_shl}
 use Rattle.earley_chart.specs.declared.places.Places.{Places}
 use Rattle.earley_chart.specs.Places.{Has}
-use Rattle.std.proofs.lemmas.Nat.Bits.{bit_at-zero, bit_at-pow_same, bit_at-pow_other, bit_at_or, bit_at-lt, bit_at_mask_inside, bit_at_mask_below, bit_at_mask_above}
+use Rattle.std.proofs.lemmas.Nat.Bits.{bit_at-zero, bit_at-pow_same, bit_at-pow_other, bit_at_or, bit_at_and, bit_at-lt, bit_at-trailing_zeros, bit_at_mask_inside, bit_at_mask_below, bit_at_mask_above}
 
 -- 1 << k
 pub one_bit : (k j : ℕ) → (bit_at (2 ^ k) j ≡ 1 → j ≡ k) × (j ≡ k → bit_at (2 ^ k) j ≡ 1)
@@ -32,3 +32,16 @@ range_bits lo hi j = (
 
 pub none_has : (set : Places) (j : ℕ) → set ≡ record { 0 = 0 } → Has set j → ⊥
 none_has set j e h = absurd (omega (arith, bit_at-zero j, subst (λ (s : Places). Has s j) e h))
+
+pub shared_bits : (a b j : ℕ) → (bit_at (bit_and a b) j ≡ 1 → (bit_at a j ≡ 1) × (bit_at b j ≡ 1)) × ((bit_at a j ≡ 1) × (bit_at b j ≡ 1) → bit_at (bit_and a b) j ≡ 1)
+shared_bits a b j = (
+  λ h. (omega (arith, bit_at_and a b j, bit_at-lt a j, bit_at-lt b j, h), omega (arith, bit_at_and a b j, bit_at-lt a j, bit_at-lt b j, h)),
+  λ h. omega (arith, bit_at_and a b j, bit_at-lt a j, bit_at-lt b j, h.0, h.1),
+)
+
+pub no_bits : (a j : ℕ) → a ≡ 0 → bit_at a j ≡ 1 → ⊥
+no_bits a j e h = absurd (omega (arith, bit_at-zero j, subst (λ n. bit_at n j ≡ 1) e h))
+
+-- a number that is not 0 has a bit
+pub some_bit : (a : ℕ) → a < 2 ^ 128 → a ≢ 0 → (j : ℕ) × (bit_at a j ≡ 1)
+some_bit a small ne = (trailing_zeros w128 a, (bit_at-trailing_zeros w128 a (omega arith) small).1)

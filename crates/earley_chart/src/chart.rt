@@ -3,6 +3,7 @@
 ghost use Rattle.std.specs.Prelude.{◌≡◌, ◌<◌, ◌≤◌, ◌↔◌, IsTrue, IfOk, MatchOption, length};
 ghost use Rattle.earley_chart.specs.Chart.{EndsAt, IsRow, IsTable, Predicts, RanOn, Spans};
 ghost use Rattle.earley_chart.specs.Chart.{Lacks, AtRow};
+ghost use Rattle.earley_chart.specs.Places.{Holds};
 ghost use Rattle.earley_chart.specs.Chart.{TellsMatch, TellsReached, TellsSpan, TellsLonger};
 
 use crate::board::{Board, Spot};
@@ -77,6 +78,13 @@ impl Chart {
         })
     }
 
+    /// The rule on which the chart was run.
+    pub fn rule(&self) -> RuleIx
+        ensures { result ≡ self.now.rule }
+    {
+        self.rule
+    }
+
     /// Whether the rule derives the words.
     pub fn matched(&self) -> bool
         ensures { TellsMatch self.now result }
@@ -101,6 +109,16 @@ impl Chart {
         match self.row(node, i) {
             None => false,
             Some(row) => self.ends_at(row, j),
+        }
+    }
+
+    /// All places where the node ends from place `i`; none where it isn't reached there.
+    pub fn ends(&self, node: NodeIx, i: u32) -> Places
+        ensures { Holds result (λ j. Spans self.now node i j) }
+    {
+        match self.row(node, i) {
+            None => Places::none(),
+            Some(row) => self.ends[row],
         }
     }
 

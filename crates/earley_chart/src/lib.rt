@@ -9,6 +9,7 @@ mod reading;
 mod search;
 
 pub use chart::Chart;
+pub use places::Places;
 
 #[cfg(test)]
 mod tests;

@@ -1,6 +1,7 @@
 //! Sets of the places of a line, as bits.
 
 ghost use Rattle.std.specs.Prelude.{◌≡◌, ℕ, ◌<◌, ◌≤◌, ◌^◌, ◌⊎◌, bit_or, ◌↔◌, IsTrue};
+ghost use Rattle.std.specs.Int.{bit_at};
 ghost use Rattle.earley_chart.specs.Places.{Has, Holds};
 
 /// A set of places. A line of at most 64 words has the places 0 to 64, before and behind each word;
@@ -49,6 +50,28 @@ impl Places {
     {
         Places(both(self.0, other.0))
     }
+
+    /// The places that are in both sets.
+    pub fn shared(self, other: Places) -> Places
+        ensures { Holds result (λ j. Has self j × Has other j) }
+    {
+        Places(self.0 & other.0)
+    }
+
+    pub fn is_empty(self) -> bool
+        ensures none { IsTrue result → (j : ℕ) → Has self j → ⊥ }
+        ensures some { (IsTrue result → ⊥) → (j : ℕ) × Has self j }
+    {
+        is_zero(self.0)
+    }
+}
+
+/// Whether no bit is set.
+fn is_zero(bits: u128) -> bool
+    ensures none { IsTrue result → (j : ℕ) → bit_at bits j ≡ 1 → ⊥ }
+    ensures some { (IsTrue result → ⊥) → (j : ℕ) × (bit_at bits j ≡ 1) }
+{
+    bits == 0
 }
 
 /// The bits of both numbers.
