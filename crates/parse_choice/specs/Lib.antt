@@ -1,0 +1,3 @@
+pub mod Choice
+-- For private contracts alone.
+pub mod code
