@@ -47,6 +47,7 @@ parts_of_alternatives parts = record {
   count = fold-roll-Expansion ℕ node_count_of_level (Expansion-F.Alt parts);
 }
 
+-- a repeat has one part
 pub part_of_repeat : (least : ℕ) (most : Option ℕ) (inner : Expansion) → HasParts (e.Rep least most inner) (inner ∷ [])
 unfolding tree.roll-Expansion denote.Hole.Carrier.roll
 part_of_repeat least most inner = record {
@@ -66,6 +67,7 @@ module _ (means : Goal → RuleIx) where
   unfolding tree.roll-Expansion denote.Hole.Carrier.roll
   laid_alternatives parts n = ap (λ (f : Laid). f n) (fold-roll-Expansion Laid (laid_of_level means) (Expansion-F.Alt parts))
 
+  -- a repeat names the number behind its own
   pub laid_repeat : (least : ℕ) (most : Option ℕ) (inner : Expansion) (n : ℕ) →
       laid means (e.Rep least most inner) n ≡ node.Rep least most (record { 0 = n + 1 }) ∷ one_by_one (n + 1) (laid means inner ∷ [])
   unfolding tree.roll-Expansion denote.Hole.Carrier.roll
@@ -78,6 +80,7 @@ pub record IsRow (x : Expansion) (parts : List Expansion) (own : List NodeIx →
   pub has : HasParts x parts
   pub nodes : (means : Goal → RuleIx) (n : ℕ) → laid means x n ≡ own (starts (n + 1) (map (laid means) parts)) ∷ one_by_one (n + 1) (map (laid means) parts)
 
+-- sequences and alternatives are rows
 pub row_of_sequence : {x : Expansion} {parts : List Expansion} → x ≡ e.Seq parts → IsRow x parts (λ numbers. node.Seq numbers)
 row_of_sequence {parts = parts} is =
     subst (λ z. IsRow z parts (λ numbers. node.Seq numbers)) (sym is) (record { has = parts_of_sequence parts; nodes = λ means n. laid_sequence means parts n })
@@ -92,6 +95,7 @@ pub record IsAlone (means : Goal → RuleIx) (x : Expansion) (own : Node) (refer
   pub references_are : references_in x ≡ references
 
 module _ (means : Goal → RuleIx) where
+  -- each kind of leaf stands alone
   pub alone_reference : (reference : Reference) → IsAlone means (e.Ref reference) (node.Ref (means reference.goal)) (reference ∷ [])
   unfolding tree.roll-Expansion denote.Hole.Carrier.roll
   alone_reference reference = record {
@@ -152,6 +156,7 @@ abbrev pub weight : List Expansion → ℕ
 weight [] = 0
 weight (x ∷ xs) = node_count x + weight xs
 
+-- two rows together, and a row from its end
 pub weight-append : (xs ys : List Expansion) → weight (xs ++ ys) ≡ weight xs + weight ys
 weight-append [] ys = omega arith
 weight-append (x ∷ xs) ys = omega (arith, weight-append xs ys)

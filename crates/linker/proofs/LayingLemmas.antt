@@ -34,6 +34,7 @@ use Rattle.linker.proofs.LayingKinds.{HasParts, IsRow, part_of_repeat, IsAlone, 
 pub readable_apart : (xs ys : List Expansion) → AreReadable (xs ++ ys) → AreReadable xs × AreReadable ys
 readable_apart xs ys h = all_apart IsReadable (flat_map uris_in xs) (flat_map uris_in ys) (subst (AllByRecursion IsReadable) (flat_map-append uris_in xs ys) h)
 
+-- where the whole can be read, so can its parts
 pub readable_parts : {x : Expansion} {parts : List Expansion} → HasParts x parts → AreReadable (x ∷ []) → AreReadable parts
 readable_parts {x = x} has h = subst (AllByRecursion IsReadable) (append-nil (uris_in x) ∙ has.uris) h
 
@@ -80,9 +81,11 @@ pub record IsFilled (one : Node) (old held mid new : Laying) : Type 0 where
   pub put : new.nodes.items ≡ slice_set mid.nodes.items (length old.nodes.items) one
   pub put_faults : new.faults ≡ mid.faults
 
+-- the number behind the place that is held
 pub next_held : {one : Node} {old held mid new : Laying} → IsFilled one old held mid new → length held.nodes.items ≡ length old.nodes.items + 1
 next_held {old = old} is = ap length is.place ∙ length-append old.nodes.items (node.Null ∷ [])
 
+-- the nodes are no fewer then
 pub filled_longer : {one : Node} {old held mid new : Laying} → IsFilled one old held mid new → length held.nodes.items ≤ length mid.nodes.items →
     length old.nodes.items ≤ length new.nodes.items
 filled_longer {one = one} {old = old} {mid = mid} is le = omega (arith, next_held is, ap length is.put ∙ length-set mid.nodes.items (length old.nodes.items) one)
@@ -105,13 +108,16 @@ adds_filled {docs = docs} {own = own} {scope = scope} {x = x} {parts = parts} {o
 
 -- ---- a node that is pushed
 
+-- this node is pushed, and nothing is told
 pub record IsPushed (one : Node) (old new : Laying) : Type 0 where
   pub nodes : new.nodes.items ≡ old.nodes.items ++ one ∷ []
   pub faults : new.faults ≡ old.faults
 
+-- the same of equal ones
 pub as_pushed : {one other : Node} {old mid new : Laying} → IsPushed other mid new → mid ≡ old → other ≡ one → IsPushed one old new
 as_pushed {other = other} {old = old} {new = new} pushed same is = subst (λ n. IsPushed n old new) is (subst (λ l. IsPushed other l new) same pushed)
 
+-- the nodes are no fewer then
 pub pushed_longer : {one : Node} {old new : Laying} → IsPushed one old new → length old.nodes.items ≤ length new.nodes.items
 pushed_longer {one = one} {old = old} pushed = omega (arith, ap length pushed.nodes ∙ length-append old.nodes.items (one ∷ []))
 
@@ -129,6 +135,7 @@ module _ (scope : Scope) where
       ∙ (ap (λ k. one (starts k (map f parts)) ∷ one_by_one k (map f parts)) (sym (next_held is))
       ∙ ap (λ numbers. one numbers ∷ one_by_one (length held.nodes.items) (map f parts)) (sym (begins docs own within within_parts))))
 
+  -- a repeat, whose inner expansion was laid
   pub lays_repeat : {x : Expansion} {least : ℕ} {most : Option ℕ} {inner : Expansion} {start : NodeIx} {old held mid new : Laying} →
       x ≡ e.Rep least most inner → IsFilled (node.Rep least most start) old held mid new → start.0 ≡ length held.nodes.items →
       Lays scope (inner ∷ []) held mid → Lays scope (x ∷ []) old new
@@ -150,6 +157,7 @@ module _ (scope : Scope) where
       adds_alone docs own scope (subst (λ z. IsAlone means z one []) (sym is) (alone means)) pushed.nodes
       (λ all keeps. subst (λ told. Keeps told new.faults) (sym (append-nil all)) (subst (Keeps all) (sym pushed.faults) keeps))
 
+  -- a reference that was followed
   pub lays_reference : {x : Expansion} {r : RuleIx} {old mid new : Laying} (reference : Reference) → x ≡ e.Ref reference → mid.nodes.items ≡ old.nodes.items →
       Follows scope reference old mid r → IsPushed (node.Ref r) mid new → Lays scope (x ∷ []) old new
   lays_reference {x = x} {r = r} {old = old} {mid = mid} {new = new} reference kind same follows pushed = λ docs own within readable.
@@ -163,12 +171,14 @@ module _ (scope : Scope) where
 
 -- ---- a row of which the parts so far are laid
 
+-- the first of these are laid, and those that are left come with the last one first
 pub record SoFar (scope : Scope) (all left : List Expansion) (old new : Laying) (at : List NodeIx) : Type 0 where
   pub done : List Expansion
   pub whole : all ≡ done ++ reverse left
   pub lays : Lays scope done old new
   pub begin : StartAt scope done (length old.nodes.items) at
 
+-- none of them yet
 pub none_so_far : (scope : Scope) (all left : List Expansion) (old : Laying) → all ≡ reverse left → SoFar scope all left old old []
 none_so_far scope all left old is = record {
   done = [];
@@ -177,6 +187,7 @@ none_so_far scope all left old is = record {
   begin = λ docs own within readable. refl;
 }
 
+-- one more
 pub one_so_far : {scope : Scope} {all left others : List Expansion} {x : Expansion} {old mid new : Laying} {at : List NodeIx} (next : NodeIx) →
     SoFar scope all left old mid at → left ≡ others ++ x ∷ [] → next.0 ≡ length mid.nodes.items → Lays scope (x ∷ []) mid new → SoFar scope all others old new (at ++ next ∷ [])
 one_so_far {scope = scope} {others = others} {x = x} {old = old} {mid = mid} {at = at} next s is number lays = record {

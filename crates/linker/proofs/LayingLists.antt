@@ -12,6 +12,7 @@ use Rattle.linker.specs.code.Tellings.{Keeps}
 
 -- ---- what is added in two steps
 
+-- both steps together
 pub added_both : {X : Type 0} (old : List X) {mid new : List X} (xs ys : List X) → mid ≡ old ++ xs → new ≡ mid ++ ys → new ≡ old ++ (xs ++ ys)
 added_both old xs ys one other = other ∙ (ap (λ zs. zs ++ ys) one ∙ append_assoc old xs ys)
 
@@ -19,6 +20,7 @@ added_both old xs ys one other = other ∙ (ap (λ zs. zs ++ ys) one ∙ append_
 abbrev pub Tells : List SetFault → Faults → Faults → Type 0
 Tells faults old new = (all : List SetFault) → Keeps all old → Keeps (all ++ faults) new
 
+-- and so for faults
 pub tells_both : {old mid new : Faults} (xs ys : List SetFault) → Tells xs old mid → Tells ys mid new → Tells (xs ++ ys) old new
 tells_both {new = new} xs ys one other = λ all keeps. subst (λ faults. Keeps faults new) (append_assoc all xs ys) (other (all ++ xs) (one all keeps))
 
@@ -28,6 +30,7 @@ tells_both {new = new} xs ys one other = λ all keeps. subst (λ faults. Keeps f
 abbrev pub behind : ℕ → List Laid → ℕ
 behind n ones = n + length (one_by_one n ones)
 
+-- it is the same behind the first of them
 pub behind_first : (n : ℕ) (one : Laid) (ones : List Laid) → behind (n + length (one n)) ones ≡ behind n (one ∷ ones)
 behind_first n one ones = omega (arith, length-append (one n) (one_by_one (n + length (one n)) ones))
 
@@ -51,6 +54,7 @@ starts_join n (one ∷ xs) ys =
 pub next_behind : (old : List Node) {mid : List Node} (xs : List Laid) → mid ≡ old ++ one_by_one (length old) xs → length mid ≡ behind (length old) xs
 next_behind old xs one = ap length one ∙ length-append old (one_by_one (length old) xs)
 
+-- nodes that are added in two steps
 pub nodes_both : (old : List Node) {mid new : List Node} (xs ys : List Laid) → mid ≡ old ++ one_by_one (length old) xs → new ≡ mid ++ one_by_one (length mid) ys → new ≡ old ++ one_by_one (length old) (xs ++ ys)
 nodes_both old {mid = mid} xs ys one other =
     let n : ℕ = length old in

@@ -102,6 +102,7 @@ module _ (readings : Readings) (own : Doc) (scope : Scope) (within : IsScope rea
     faults = λ all keeps. subst (λ faults. Keeps faults mid.laying.faults) (sym (append-nil all)) (subst (Keeps all) (sym is.faults) keeps);
   }
 
+  -- what a document adds with its rules
   pub grows_document : {old mid new : Whole} (staged : DocText) → staged.key ≡ scope.key.now → IsBegun scope own old mid →
       AllByRecursion IsReadable (uris_of own.rules) → LaysRules scope (record { 0 = length old.docs }) own.rules mid new →
       Grows scope.set.now readings (one_in scope.set.now readings scope.place (length old.docs) staged (Some (read.Good own))) old new
@@ -182,6 +183,7 @@ pub record IsEmpty (whole : Whole) : Type 0 where
   pub defined : whole.defined.items ≡ []
 
 module _ (set : List DocText) (readings : Readings) where
+  -- none of them yet
   pub no_documents_so_far : (start : Whole) → start.docs ≡ [] → DocumentsSoFar set readings 0 start start
   no_documents_so_far start is = record {
     added = record { definitions = []; docs = []; faults = [] };
@@ -190,6 +192,7 @@ module _ (set : List DocText) (readings : Readings) where
     few = omega (arith, ap length is);
   }
 
+  -- one more
   pub one_document_so_far : {k : ℕ} {start mid new : Whole} {staged : DocText} {reading : Option ReadDoc} → DocumentsSoFar set readings k start mid →
       slice_get set k ≡ Some staged → slice_get readings k ≡ Some reading → Grows set readings (one_in set readings k (length mid.docs) staged reading) mid new →
       DocumentsSoFar set readings (k + 1) start new
@@ -210,6 +213,7 @@ module _ (set : List DocText) (readings : Readings) where
         few = omega (arith, more, numbered_few reading, s.few);
       }
 
+  -- all of them: the whole of the set
   pub documents_are_whole : {k : ℕ} {start whole : Whole} → DocumentsSoFar set readings k start whole → length set ≤ k → IsEmpty start →
       (before : List SetFault) → Keeps before start.laying.faults → IsWhole set readings before whole
   documents_are_whole {k = k} {start = start} {whole = whole} s le empty before keeps =

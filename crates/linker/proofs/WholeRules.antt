@@ -27,6 +27,7 @@ pub record IsLaidRule (scope : Scope) (number : DocIx) (rule : Rule) (old new : 
   pub docs : new.docs ≡ old.docs
   pub defined : (own : Doc) → new.defined.items ≡ old.defined.items ++ defined_of (definition_in scope own number rule) ∷ []
 
+-- what one rule adds
 pub grows_rule : {readings : Readings} {own : Doc} {scope : Scope} {number : DocIx} {rule : Rule} {old new : Whole} →
     IsLaidRule scope number rule old new → Adds readings own scope (rule.body ∷ []) old.laying new.laying →
     Grows scope.set.now readings (rules_in readings own scope number (rule ∷ [])) old new
@@ -50,6 +51,7 @@ pub record RulesSoFar (scope : Scope) (number : DocIx) (all left : List Rule) (o
   pub whole : all ≡ done ++ reverse left
   pub lays : LaysRules scope number done old new
 
+-- none of them yet
 pub no_rules_so_far : (scope : Scope) (number : DocIx) (all left : List Rule) (old : Whole) → all ≡ reverse left → RulesSoFar scope number all left old old
 no_rules_so_far scope number all left old is = record { done = []; whole = is; lays = λ readings own within readable. grows_none scope.set.now readings old }
 
@@ -59,6 +61,7 @@ rules_join readings own scope number xs ys =
     same_added (sym (map-append (definition_in scope own number) xs ys)) refl
     (sym (flat_map-append (λ rule. reference_faults scope.set.now readings scope.place scope.key.now own (references_in rule.body)) xs ys))
 
+-- one more
 pub one_rule_so_far : {scope : Scope} {number : DocIx} {all left others : List Rule} {old mid new : Whole} (rule : Rule) →
     RulesSoFar scope number all left old mid → left ≡ others ++ rule ∷ [] → LaysRules scope number (rule ∷ []) mid new → RulesSoFar scope number all others old new
 one_rule_so_far {scope = scope} {number = number} {others = others} {old = old} {new = new} rule s is lays = record {
@@ -71,6 +74,7 @@ one_rule_so_far {scope = scope} {number = number} {others = others} {old = old} 
       (grows_both scope.set.now readings (s.lays readings own within apart.0) (lays readings own within apart.1));
 }
 
+-- all of them
 pub lays_all_rules : {scope : Scope} {number : DocIx} {all left : List Rule} {old new : Whole} → RulesSoFar scope number all left old new → left ≡ [] → LaysRules scope number all old new
 lays_all_rules {scope = scope} {number = number} {all = all} {old = old} {new = new} s is =
     let done : s.done ≡ all = sym (s.whole ∙ (ap (λ left. s.done ++ reverse left) is ∙ append-nil s.done)) in

@@ -12,6 +12,7 @@ use Rattle.linker.proofs.LayingLists.{added_both, tells_both, behind, behind_fir
 
 -- ---- two additions
 
+-- the one and then the other
 abbrev pub both : Added → Added → Added
 both a b = record { definitions = a.definitions ++ b.definitions; docs = a.docs ++ b.docs; faults = a.faults ++ b.faults }
 
