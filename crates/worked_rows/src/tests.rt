@@ -2,6 +2,7 @@
 mod arithmetic_on_kinds;
 mod assignments;
 mod documents;
+mod linking;
 mod literals;
 mod operators;
 mod operators_on_kinds;
